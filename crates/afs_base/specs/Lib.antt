@@ -1,0 +1,4 @@
+pub mod Causes
+pub mod Filled
+pub mod Kind
+pub mod Path
