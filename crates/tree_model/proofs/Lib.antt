@@ -1,0 +1,13 @@
+pub mod Paths
+pub mod TreeFacts
+pub mod Entries
+pub mod Bits
+pub mod Effects
+pub mod PlaceFacts
+pub mod AccessTests
+pub mod Gathering
+pub mod Theirs
+pub mod Mine
+pub mod KeyLists
+pub mod Law
+pub mod Untouched

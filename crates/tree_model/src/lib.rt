@@ -1,0 +1,20 @@
+//! The pages of a version as a tree, the steps of an update on it, what they read and write, and when two updates clash.
+#![tactic(auto)]
+
+mod access;
+mod child;
+mod memory;
+mod merge;
+mod places;
+mod step;
+mod tree;
+
+pub use access::{Access, accesses, first_clash};
+pub use child::Child;
+pub use memory::Memory;
+pub use merge::merge_law;
+pub use step::{Reply, Step};
+pub use tree::Tree;
+
+#[cfg(test)]
+mod tests;
