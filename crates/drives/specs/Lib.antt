@@ -1,0 +1,4 @@
+pub mod Half
+pub mod Crash
+pub mod Faults
+pub mod Changes

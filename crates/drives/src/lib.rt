@@ -1,0 +1,7 @@
+//! Two halves of equal size that are read, written and synced, and what a crash may leave on them.
+#![tactic(auto)]
+
+mod device;
+
+pub use afs_base::Failed;
+pub use device::{Drives, Half};
