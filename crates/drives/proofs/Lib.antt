@@ -1,1 +1,2 @@
 pub mod Tearing
+pub mod Moments

@@ -1,7 +1,7 @@
 -- When a call of a half may fail, and what its count of faults says then.
 use Rattle.std.specs.Prelude.{◌≡◌, ◌⊎◌, ℕ, ◌-◌, ◌^◌, ◌≤◌, Result, OnOk, OnErr}
 use Rattle.afs_base.specs.Causes.{Rose}
-use Rattle.afs_base.specs.declared.Failed.{Failed}
+use Rattle.afs_base.specs.declared.failed.Failed.{Failed}
 
 -- the half failed: its count rose, or the clock stands at its end, where each call fails
 abbrev pub HasFailed : ℕ → ℕ → ℕ → Type 0

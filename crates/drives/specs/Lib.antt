@@ -5,3 +5,5 @@ pub mod Changes
 pub mod Remembered
 pub mod Images
 pub mod Sure
+pub mod Replay
+pub mod Left

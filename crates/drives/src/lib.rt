@@ -2,10 +2,15 @@
 #![tactic(auto)]
 
 mod bytes;
+mod call;
 mod device;
 mod history;
+mod mem_half;
+mod out_of_memory;
 mod sure;
 
 pub use afs_base::Failed;
+pub use call::Pick;
 pub use device::{Drives, Half};
+pub use out_of_memory::Memory;
 pub use sure::SureDrives;

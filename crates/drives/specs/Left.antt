@@ -1,0 +1,17 @@
+-- What a crash may leave of a memory half.
+use Rattle.std.specs.Prelude.{ℕ, ◌-◌, ◌^◌, min, List, length}
+use Rattle.drives.specs.declared.call.Event.{Event}
+use Rattle.drives.specs.declared.mem_half.MemHalf.{MemHalf}
+use Rattle.drives.specs.Images.{IsImage}
+use Rattle.drives.specs.Replay.{state_at}
+
+-- an image of a moment: the bytes of that moment, but anything in the ranges that were written since the last sync
+abbrev pub IsLeftBy : List ℕ → List Event → ℕ → List ℕ → Type 0
+IsLeftBy first events t c = IsImage (state_at first t events).spans (state_at first t events).bytes c
+
+abbrev pub IsMemLeft : MemHalf → ℕ → List ℕ → Type 0
+IsMemLeft half t c = IsLeftBy half.first.items half.events t c
+
+-- the moment after so many calls
+abbrev pub moment_after : List Event → ℕ
+moment_after events = min (length events) (2 ^ 64 - 1)
