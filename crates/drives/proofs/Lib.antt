@@ -1,2 +1,3 @@
 pub mod Tearing
 pub mod Moments
+pub mod Halves

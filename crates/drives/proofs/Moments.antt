@@ -2,29 +2,22 @@
 use Rattle.std.proofs.Common.{◌≡◌, ◌⊎◌, inl, inr, ℕ, ◌+◌, ◌-◌, ◌^◌, ◌<◌, ◌≤◌, min, Bool, true, false, cond, leb, List, [], ◌∷◌, ◌++◌, length, refl, sym, ◌∙◌, ap, subst, arith, ◌↔◌, slice_index}
 use Rattle.std.specs.Prelude.{nat_le, if◌then◌else◌}
 use Rattle.std.proofs.lemmas.Bool.Decides.{nat_tests}
+use Rattle.std.proofs.lemmas.Grind.{common_steps}
 use Rattle.std.proofs.lemmas.List.{same_lists, get_or_default}
 use Rattle.drives.specs.declared.history.Span.{Span}
+use Rattle.drives.specs.declared.call.What.{What}
+use Rattle.drives.specs.declared.call.What.TheVariants.{Write, Tear, Sync}
 use Rattle.drives.specs.declared.call.Event.{Event}
 use Rattle.drives.specs.declared.call.Event.TheVariants.{Made, Lost, Idle}
-use Rattle.drives.specs.Crash.{Torn, LeavesTorn, LeavesEachTorn, LeavesSame, LeavesNoMore, LeavesOnly}
+use Rattle.drives.specs.Crash.{IsOutside, Torn, LeavesTorn, LeavesEachTorn, LeavesSame, LeavesNoMore, LeavesOnly}
 use Rattle.drives.specs.Images.{IsUntouched, IsImage}
-use Rattle.drives.specs.Replay.{State, start, happened, state, state_at, next_call}
+use Rattle.drives.specs.Replay.{State, start, happened, done, overwritten, state, state_at, next_call, IsWriteOf}
 use Rattle.drives.specs.Left.{IsLeftBy, moment_after}
+use Rattle.drives.specs.LeftLaws.{state_now}
 use Rattle.drives.proofs.Tearing.{torn_image, torn_each}
-
-told_le : (a b : ℕ) → a ≤ b → nat_le a b ≡ true
-told_le a b h = grind (arith, nat_tests)
 
 told_gt : (a b : ℕ) → b < a → nat_le a b ≡ false
 told_gt a b h = grind (arith, nat_tests)
-
--- at a moment that all calls have reached, all have happened
-pub state_now : (first : List ℕ) (t : ℕ) (events : List Event) → moment_after events ≤ t → state_at first t events ≡ state first events
-state_now first t [] h = refl
-state_now first t (e ∷ events) h =
-    let now : next_call (length events) ≤ t = omega (arith, h) in
-    ap (λ (b : Bool). if b then happened e (state_at first t events) else state_at first t events) (told_le _ _ now)
-    ∙ ap (happened e) (state_now first t events (omega arith))
 
 -- one more call has happened at its own moment
 pub state_next : (first : List ℕ) (e : Event) (events : List Event) → state_at first (next_call (length events)) (e ∷ events) ≡ happened e (state first events)
@@ -118,3 +111,37 @@ module _ (first : List ℕ) (e : Event) (events grown : List Event) (is : grown 
       size = (only_bytes c image).size;
       untouched = λ i free. (only_bytes c image).untouched i tt;
     })
+
+overwritten_outside : (at : ℕ) (bytes half : List ℕ) (i : ℕ) → at + length bytes ≤ length half → IsOutside at (length bytes) i → slice_index (overwritten at bytes half) i ≡ slice_index half i
+overwritten_outside at bytes half i h (inl low) = grind (arith, common_steps)
+overwritten_outside at bytes half i h (inr high) = grind (arith, common_steps)
+
+-- a range overwritten is a range torn
+pub overwritten_torn : (at : ℕ) (bytes half : List ℕ) → at + length bytes ≤ length half → Torn at (length bytes) half (overwritten at bytes half)
+overwritten_torn at bytes half h = record {
+  size = grind (arith, common_steps);
+  outside = λ i outside. overwritten_outside at bytes half i h outside;
+}
+
+-- what a recorded write does
+pub done_write : (at : ℕ) (bytes : List ℕ) (what : What) (s : State) → IsWriteOf at bytes what → done what s ≡ record { bytes = overwritten at bytes s.bytes; synced = s.synced; spans = record { at = at; len = length bytes } ∷ s.spans }
+done_write at bytes (Write at' bytes') s (same_at, same_bytes) = rw (same_at, same_bytes)
+done_write at bytes (Tear at' len) s h = absurd h
+done_write at bytes Sync s h = absurd h
+
+-- a call that tears its range, and nothing else
+module _ (first : List ℕ) (e : Event) (events grown : List Event) (is : grown ≡ e ∷ events) (at n : ℕ) (after : State) (happens : happened e (state first events) ≡ after) (spans : after.spans ≡ record { at = at; len = n } ∷ (state first events).spans) (torn : Torn at n (state first events).bytes after.bytes) where
+  torn' : Torn at n (state first events).bytes (happened e (state first events)).bytes
+  torn' = subst (λ (s : State). Torn at n (state first events).bytes s.bytes) (sym happens) torn
+
+  spans' : (happened e (state first events)).spans ≡ record { at = at; len = n } ∷ (state first events).spans
+  spans' = ap (λ (s : State). s.spans) happens ∙ spans
+
+  pub tearing_torn : LeavesTorn at n (IsLeftBy first events (moment_after events)) (IsLeftBy first grown (moment_after grown))
+  tearing_torn = grown_torn first e events grown is at n torn' (record { at = at; len = n }) spans' refl refl
+
+  pub tearing_each : LeavesEachTorn at n (IsLeftBy first events (moment_after events)) (IsLeftBy first grown (moment_after grown))
+  tearing_each = grown_each first e events grown is at n torn' (record { at = at; len = n }) spans' refl refl
+
+  pub tearing_bytes : (state first grown).bytes ≡ after.bytes
+  tearing_bytes = ap (λ (es : List Event). (state first es).bytes) is ∙ ap (λ (s : State). s.bytes) happens

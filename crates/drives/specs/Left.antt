@@ -1,7 +1,10 @@
 -- What a crash may leave of a memory half.
 use Rattle.std.specs.Prelude.{ℕ, ◌-◌, ◌^◌, min, List, length}
+use Rattle.drives.specs.declared.device.Half.{Half}
+use Rattle.drives.specs.declared.device.Half.TheVariants.{A, B}
 use Rattle.drives.specs.declared.call.Event.{Event}
 use Rattle.drives.specs.declared.mem_half.MemHalf.{MemHalf}
+use Rattle.drives.specs.declared.memory.MemDrives.{MemDrives}
 use Rattle.drives.specs.Images.{IsImage}
 use Rattle.drives.specs.Replay.{state_at}
 
@@ -15,3 +18,8 @@ IsMemLeft half t c = IsLeftBy half.first.items half.events t c
 -- the moment after so many calls
 abbrev pub moment_after : List Event → ℕ
 moment_after events = min (length events) (2 ^ 64 - 1)
+
+-- one of the halves
+abbrev pub mem_half : MemDrives → Half → MemHalf
+mem_half d A = d.a
+mem_half d B = d.b

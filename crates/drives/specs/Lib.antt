@@ -7,3 +7,4 @@ pub mod Images
 pub mod Sure
 pub mod Replay
 pub mod Left
+pub mod LeftLaws

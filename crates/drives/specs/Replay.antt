@@ -90,3 +90,9 @@ abbrev pub IsPicked : Pick → State → List ℕ → Type 0
 IsPicked New s image = image ≡ s.bytes
 IsPicked Old s image = image ≡ s.synced
 IsPicked (Fill byte) s image = IsFilled byte s image
+
+-- this writes these bytes from this offset on
+abbrev pub IsWriteOf : ℕ → List ℕ → What → Type 0
+IsWriteOf at bytes (Write at' bytes') = (at' ≡ at) × (bytes'.items ≡ bytes)
+IsWriteOf at bytes (Tear at' len) = ⊥
+IsWriteOf at bytes Sync = ⊥

@@ -1,6 +1,7 @@
 // Reading and writing a range of a half.
 ghost use Rattle.std.specs.Prelude.{◌≡◌, ◌+◌, ◌≤◌, length};
 ghost use Rattle.drives.specs.Crash.{HasAt, Torn};
+ghost use Rattle.drives.specs.Replay.{overwritten};
 
 /// Copies the bytes from `at` on into the whole of `buf`.
 pub fn copy_out(half: &Vec<u8>, at: u64, buf: &mut [u8])
@@ -14,6 +15,7 @@ pub fn copy_out(half: &Vec<u8>, at: u64, buf: &mut [u8])
 /// Writes the bytes over those from `at` on.
 pub fn write_over(half: &mut Vec<u8>, at: u64, bytes: &[u8])
     requires { at + length bytes.now ≤ length half.old.items }
+    ensures value { half.new.items ≡ overwritten at bytes.now half.old.items }
     ensures written { HasAt at bytes.now half.new.items }
     ensures range { Torn at (length bytes.now) half.old.items half.new.items }
 {

@@ -6,11 +6,13 @@ mod call;
 mod device;
 mod history;
 mod mem_half;
+mod memory;
 mod out_of_memory;
 mod sure;
 
 pub use afs_base::Failed;
 pub use call::Pick;
 pub use device::{Drives, Half};
+pub use memory::MemDrives;
 pub use out_of_memory::Memory;
 pub use sure::SureDrives;

@@ -1,0 +1,131 @@
+// Halves in memory whose calls can be made to fail, and whose images can be had.
+ghost use Rattle.std.specs.Prelude.{◌≡◌, ◌⊎◌, ◌↔◌, ℕ, ◌+◌, ◌-◌, ◌*◌, ◌^◌, ◌<◌, ◌≤◌, min, List, length, IsTrue, Contains};
+ghost use Rattle.drives.specs.Crash.{Ticks};
+
+use crate::Failed;
+use crate::device::{Drives, Half};
+use crate::mem_half::MemHalf;
+
+/// Two halves in memory with a list of the call numbers that fail.
+#[derive(Drop)]
+pub struct MemDrives {
+    a: MemHalf,
+    b: MemHalf,
+    blocks: u32,
+    time: u64,
+    failing: Vec<u64>,
+    ghost some: { 0 < blocks },
+    ghost clock: { time < 2 ^ 64 },
+    ghost whole_a: { length a.bytes.items ≡ 1024 * blocks },
+    ghost whole_b: { length b.bytes.items ≡ 1024 * blocks },
+    ghost moment_a: { min (length a.events) (2 ^ 64 - 1) ≡ time },
+    ghost moment_b: { min (length b.events) (2 ^ 64 - 1) ≡ time },
+    ghost last_a: { a.faults.last ≤ time },
+    ghost last_b: { b.faults.last ≤ time },
+}
+
+// A moment passes, and the call of its number fails where it is listed, or where the clock has ended.
+fn tick(time: &mut u64, failing: &Vec<u64>) -> bool
+    ensures time { Ticks time.old time.new }
+    ensures refused { IsTrue result ↔ ((time.old ≡ 2 ^ 64 - 1) ⊎ Contains failing.now.items time.new) }
+{
+    if *time == u64::MAX {
+        return true;
+    }
+    *time += 1;
+    failing.contains(time)
+}
+
+impl MemDrives {
+    /// From now on the calls of these numbers fail, and no others.
+    pub fn fail_at(&mut self, calls: Vec<u64>)
+        ensures { self.new ≡ record self.old { failing = calls } }
+    {
+        self.failing = calls;
+    }
+}
+
+impl Drives for MemDrives {
+    ghost use Rattle.drives.specs.Left.{mem_half, IsMemLeft};
+
+    ghost tells = { Unit {0} };
+
+    ghost size = { λ d. d.blocks };
+
+    ghost moment = { λ d. d.time };
+
+    ghost seen = { λ d h. (mem_half d h).bytes.items };
+
+    ghost may_leave = { λ d h t c. IsMemLeft (mem_half d h) t c };
+
+    ghost faults = { λ d h. (mem_half d h).faults.count };
+
+    ghost last_fault = { λ d h. (mem_half d h).faults.last };
+
+    fn blocks(&self) -> u32 {
+        self.blocks
+    }
+
+    fn now(&self) -> u64 {
+        self.time
+    }
+
+    fn read(&mut self, half: Half, at: u64, buf: &mut [u8]) -> Result<(), Failed> {
+        let refused = tick(&mut self.time, &self.failing);
+        match half {
+            Half::A => {
+                self.b.idle();
+                self.a.read(self.time, refused, at, buf)
+            }
+            Half::B => {
+                self.a.idle();
+                self.b.read(self.time, refused, at, buf)
+            }
+        }
+    }
+
+    fn write(&mut self, half: Half, at: u64, bytes: &[u8]) -> Result<(), Failed> {
+        let refused = tick(&mut self.time, &self.failing);
+        match half {
+            Half::A => {
+                self.b.idle();
+                self.a.write(self.time, refused, at, bytes)
+            }
+            Half::B => {
+                self.a.idle();
+                self.b.write(self.time, refused, at, bytes)
+            }
+        }
+    }
+
+    fn sync(&mut self, half: Half) -> Result<(), Failed> {
+        let refused = tick(&mut self.time, &self.failing);
+        match half {
+            Half::A => {
+                self.b.idle();
+                self.a.sync(self.time, refused)
+            }
+            Half::B => {
+                self.a.idle();
+                self.b.sync(self.time, refused)
+            }
+        }
+    }
+
+    ghost use Rattle.std.proofs.Common.{rules};
+    ghost use Rattle.std.proofs.lemmas.Grind.{common_steps};
+
+    ghost some = { Prim.search (rules, common_steps) };
+
+    ghost clock = { Prim.search (rules, common_steps) };
+
+    ghost fault_past = { Prim.search (rules, common_steps) };
+
+    ghost whole = { Prim.search (rules, common_steps) };
+
+    ghost use Rattle.drives.specs.LeftLaws.{length-left, left_seen};
+
+    ghost left_whole = { λ d h c left. length-left d h c left };
+
+    ghost left_read = { λ d h _. left_seen d h };
+}
