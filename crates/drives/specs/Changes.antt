@@ -43,3 +43,7 @@ OnHalves R x y = R A x.a y.a × R B x.b y.b
 -- nothing is pending: a crash now leaves what reads give
 abbrev pub IsAtRest : {D : Type 0} → (D → Half → List ℕ) → (D → ℕ) → (D → Half → ℕ → List ℕ → Type 0) → D → Type 0
 IsAtRest seen moment may_leave d = (h : Half) → LeavesOnly (seen d h) (may_leave d h (moment d))
+
+-- what a crash may leave, seen in another way: by a relation between the two ways of seeing it
+abbrev pub ViewedLeft : {D X Y : Type 0} → (X → Y → Type 0) → (D → ℕ → X → Type 0) → D → ℕ → Y → Type 0
+ViewedLeft {X = X} View may_leave d t y = (x : X) × may_leave d t x × View x y

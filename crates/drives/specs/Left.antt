@@ -6,7 +6,7 @@ use Rattle.drives.specs.declared.call.Event.{Event}
 use Rattle.drives.specs.declared.mem_half.MemHalf.{MemHalf}
 use Rattle.drives.specs.declared.memory.MemDrives.{MemDrives}
 use Rattle.drives.specs.Images.{IsImage}
-use Rattle.drives.specs.Replay.{state_at}
+use Rattle.drives.specs.Replay.{State, state_at, replayed}
 
 -- an image of a moment: the bytes of that moment, but anything in the ranges that were written since the last sync
 abbrev pub IsLeftBy : List ℕ → List Event → ℕ → List ℕ → Type 0
@@ -14,6 +14,10 @@ IsLeftBy first events t c = IsImage (state_at first t events).spans (state_at fi
 
 abbrev pub IsMemLeft : MemHalf → ℕ → List ℕ → Type 0
 IsMemLeft half t c = IsLeftBy half.first.items half.events t c
+
+-- a half at a moment, as the record of its calls has it
+abbrev pub recorded_at : MemHalf → ℕ → State
+recorded_at half t = replayed half.first.items t half.calls.items
 
 -- the moment after so many calls
 abbrev pub moment_after : List Event → ℕ

@@ -5,6 +5,7 @@ mod bytes;
 mod call;
 mod device;
 mod history;
+mod image;
 mod mem_half;
 mod memory;
 mod out_of_memory;

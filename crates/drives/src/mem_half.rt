@@ -1,16 +1,17 @@
 // A half in memory with a record of its calls.
-ghost use Rattle.std.specs.Prelude.{◌≡◌, ◌↔◌, ℕ, ◌+◌, ◌-◌, ◌*◌, ◌^◌, ◌<◌, ◌≤◌, min, true, List, [], ◌∷◌, ◌++◌, length, OnOk, OnErr, IfOk, IsErr, IsOk, IsTrue};
+ghost use Rattle.std.specs.Prelude.{◌≡◌, ◌↔◌, ℕ, ◌+◌, ◌-◌, ◌*◌, ◌^◌, ◌<◌, ◌≤◌, min, true, List, [], ◌∷◌, ◌++◌, length, vec_len, OnOk, OnErr, IfOk, IsErr, IsOk, IsTrue};
 ghost use Rattle.drives.specs.Crash.{HasAt, LeavesEachTorn, LeavesOnly, LeavesNoMore, LeavesSame, LeavesTorn, Torn};
 ghost use Rattle.drives.specs.Faults.{HasFault};
-ghost use Rattle.drives.specs.Replay.{state, recorded, calls_fit, next_call, IsWriteOf};
+ghost use Rattle.drives.specs.Replay.{state, recorded, calls_fit, next_call, IsPicked, IsWriteOf};
 
 use std::alloc::Global;
 use std::snapshot::Snapshot;
 
 use crate::Failed;
 use crate::bytes::{copy_out, write_over};
-use crate::call::{Call, Event, What};
+use crate::call::{Call, Event, Pick, What};
 use crate::history::Remembered;
+use crate::image::image_at;
 use crate::out_of_memory::Memory;
 
 /// How often a half has failed, and the moment of its last fault, 0 before the first.
@@ -75,7 +76,7 @@ fn record_write(
 }
 
 impl MemHalf {
-    ghost use Rattle.drives.specs.Left.{IsMemLeft, moment_after};
+    ghost use Rattle.drives.specs.Left.{IsMemLeft, moment_after, recorded_at};
 
     /// A half with these bytes, all of them synced.
     pub fn new(alloc: Global, bytes: Vec<u8>) -> Result<MemHalf, Memory>
@@ -92,6 +93,22 @@ impl MemHalf {
             events: Remembered::nothing(),
             faults: FaultCount { count: 0, last: 0 },
         })
+    }
+
+    /// The bytes that reads give.
+    pub fn bytes(&self) -> &[u8]
+        ensures { result.now ≡ self.now.bytes.items }
+    {
+        &self.bytes
+    }
+
+    /// An image of this half at a moment: what the pick says in each range that was written and not synced by then.
+    pub fn image(&self, moment: u64, pick: Pick) -> Result<Vec<u8>, Memory>
+        ensures left { IfOk result (λ image. IsMemLeft self.now moment image.items) }
+        ensures picked { IfOk result (λ image. IsPicked pick (recorded_at self.now moment) image.items) }
+        ensures length { IfOk result (λ image. vec_len image ≡ length self.now.bytes.items) }
+    {
+        image_at(self.alloc, &self.first, &self.calls, moment, pick)
     }
 
     /// A call that did nothing to this half.

@@ -1,20 +1,27 @@
 // Halves in memory whose calls can be made to fail, and whose images can be had.
-ghost use Rattle.std.specs.Prelude.{◌≡◌, ◌⊎◌, ◌↔◌, ℕ, ◌+◌, ◌-◌, ◌*◌, ◌^◌, ◌<◌, ◌≤◌, min, List, length, IsTrue, Contains};
+ghost use Rattle.std.specs.Prelude.{◌≡◌, ◌⊎◌, ◌↔◌, ℕ, ◌+◌, ◌-◌, ◌*◌, ◌^◌, ◌<◌, ◌≤◌, min, List, length, vec_len, replicate, IfOk, IsTrue, Contains};
 ghost use Rattle.drives.specs.Crash.{Ticks};
+ghost use Rattle.drives.specs.New.{IsHalfLength, IsNew};
+
+use std::alloc::Global;
 
 use crate::Failed;
+use crate::call::Pick;
 use crate::device::{Drives, Half};
 use crate::mem_half::MemHalf;
+use crate::out_of_memory::Memory;
 
 /// Two halves in memory with a list of the call numbers that fail.
 #[derive(Drop)]
 pub struct MemDrives {
+    alloc: Global,
     a: MemHalf,
     b: MemHalf,
     blocks: u32,
     time: u64,
     failing: Vec<u64>,
     ghost some: { 0 < blocks },
+    ghost most: { blocks ≤ 65536 },
     ghost clock: { time < 2 ^ 64 },
     ghost whole_a: { length a.bytes.items ≡ 1024 * blocks },
     ghost whole_b: { length b.bytes.items ≡ 1024 * blocks },
@@ -37,6 +44,66 @@ fn tick(time: &mut u64, failing: &Vec<u64>) -> bool
 }
 
 impl MemDrives {
+    ghost use Rattle.drives.specs.declared.device.Half.{Half};
+    ghost use Rattle.drives.specs.Left.{mem_half, recorded_at};
+    ghost use Rattle.drives.specs.Replay.{IsPicked};
+
+    /// Halves of `blocks` blocks of zeros.
+    pub fn blank(alloc: Global, blocks: u32) -> Result<MemDrives, Memory>
+        requires some { 1 ≤ blocks }
+        requires most { blocks ≤ 65536 }
+        ensures { IfOk result (IsNew ⟦<MemDrives as Drives>⟧.size ⟦<MemDrives as Drives>⟧.moment ⟦<MemDrives as Drives>⟧.seen
+            ⟦<MemDrives as Drives>⟧.may_leave ⟦<MemDrives as Drives>⟧.faults ⟦<MemDrives as Drives>⟧.last_fault
+            (replicate (1024 * blocks) 0) (replicate (1024 * blocks) 0)) }
+    {
+        let len = 1024 * blocks as usize;
+        let a = vec![in alloc; 0; len]?;
+        let b = vec![in alloc; 0; len]?;
+        MemDrives::of_halves(alloc, a, b)
+    }
+
+    /// Halves of these bytes, all of them synced. No call fails until `fail_at` says so.
+    pub fn of_halves(alloc: Global, a: Vec<u8>, b: Vec<u8>) -> Result<MemDrives, Memory>
+        requires equal { vec_len b ≡ vec_len a }
+        requires whole { IsHalfLength (vec_len a) }
+        ensures { IfOk result (IsNew ⟦<MemDrives as Drives>⟧.size ⟦<MemDrives as Drives>⟧.moment ⟦<MemDrives as Drives>⟧.seen
+            ⟦<MemDrives as Drives>⟧.may_leave ⟦<MemDrives as Drives>⟧.faults ⟦<MemDrives as Drives>⟧.last_fault a.items b.items) }
+    {
+        let blocks = (a.len() / 1024) as u32;
+        Ok(MemDrives {
+            alloc,
+            a: MemHalf::new(alloc, a)?,
+            b: MemHalf::new(alloc, b)?,
+            blocks,
+            time: 0,
+            failing: Vec::new(alloc),
+        })
+    }
+
+    /// The bytes that reads of a half give.
+    pub fn half_bytes(&self, half: Half) -> &[u8]
+        ensures { result.now ≡ ⟦<MemDrives as Drives>⟧.seen self.now half }
+    {
+        match half {
+            Half::A => self.a.bytes(),
+            Half::B => self.b.bytes(),
+        }
+    }
+
+    /// New halves that hold what a crash at a moment might have left: in each range that was written and not synced by
+    /// then, what the pick says. A failed write counts as one that left the bytes as they were.
+    pub fn image(&self, moment: u64, pick: Pick) -> Result<MemDrives, Memory>
+        requires { moment ≤ ⟦<MemDrives as Drives>⟧.moment self.now }
+        ensures fresh { IfOk result (λ d. IsNew ⟦<MemDrives as Drives>⟧.size ⟦<MemDrives as Drives>⟧.moment ⟦<MemDrives as Drives>⟧.seen
+            ⟦<MemDrives as Drives>⟧.may_leave ⟦<MemDrives as Drives>⟧.faults ⟦<MemDrives as Drives>⟧.last_fault
+            (⟦<MemDrives as Drives>⟧.seen d Half.A) (⟦<MemDrives as Drives>⟧.seen d Half.B) d) }
+        ensures size { IfOk result (λ d. ⟦<MemDrives as Drives>⟧.size d ≡ ⟦<MemDrives as Drives>⟧.size self.now) }
+        ensures left { IfOk result (λ d. (h : Half) → ⟦<MemDrives as Drives>⟧.may_leave self.now h moment (⟦<MemDrives as Drives>⟧.seen d h)) }
+        ensures picked { IfOk result (λ d. (h : Half) → IsPicked pick (recorded_at (mem_half self.now h) moment) (⟦<MemDrives as Drives>⟧.seen d h)) }
+    {
+        MemDrives::of_halves(self.alloc, self.a.image(moment, pick)?, self.b.image(moment, pick)?)
+    }
+
     /// From now on the calls of these numbers fail, and no others.
     pub fn fail_at(&mut self, calls: Vec<u64>)
         ensures { self.new ≡ record self.old { failing = calls } }

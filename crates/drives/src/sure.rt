@@ -1,15 +1,18 @@
 // Halves in memory whose calls never fail but at the clock's end.
-ghost use Rattle.std.specs.Prelude.{◌≡◌, ℕ, ◌+◌, ◌-◌, ◌*◌, ◌^◌, ◌<◌, ◌≤◌, List, [], ◌∷◌, length, OnOk, OnErr, IsErr, IsOk};
+ghost use Rattle.std.specs.Prelude.{◌≡◌, ℕ, ◌+◌, ◌-◌, ◌*◌, ◌^◌, ◌<◌, ◌≤◌, List, [], ◌∷◌, length, vec_len, replicate, OnOk, OnErr, IfOk, IsOk};
 ghost use Rattle.drives.specs.Half.{other};
-ghost use Rattle.drives.specs.Crash.{HasAt, LeavesEachTorn, LeavesTorn, Torn};
+ghost use Rattle.drives.specs.Crash.{HasAt, LeavesEachTorn, LeavesOnly, LeavesTorn, Torn};
 ghost use Rattle.drives.specs.Images.{IsImage};
+ghost use Rattle.drives.specs.New.{IsHalfLength, IsNew};
 
+use std::alloc::Global;
 use std::snapshot::Snapshot;
 
 use crate::Failed;
 use crate::bytes::{copy_out, write_over};
 use crate::device::{Drives, Half};
 use crate::history::{Remembered, Span};
+use crate::out_of_memory::Memory;
 
 /// A half as it was at a moment.
 #[derive(Drop)]
@@ -45,13 +48,14 @@ pub struct SureDrives {
 }
 
 impl SureHalf {
-    ghost use Rattle.drives.specs.Sure.{Remembers};
+    ghost use Rattle.drives.specs.Sure.{IsLeft, Remembers};
 
     fn new(bytes: Vec<u8>) -> SureHalf
         ensures bytes { result.bytes.items ≡ bytes.items }
         ensures spans { result.spans ≡ [] }
         ensures past { result.past ≡ [] }
         ensures last { result.last ≡ 0 }
+        ensures only { LeavesOnly bytes.items (IsLeft result 0) }
     {
         SureHalf {
             bytes,
@@ -112,6 +116,47 @@ impl SureHalf {
 
 impl SureDrives {
     ghost use Rattle.drives.specs.Sure.{sure_half, Remembers};
+
+    /// Halves of `blocks` blocks of zeros.
+    pub fn blank(alloc: Global, blocks: u32) -> Result<SureDrives, Memory>
+        requires some { 1 ≤ blocks }
+        requires most { blocks ≤ 65536 }
+        ensures { IfOk result (IsNew ⟦<SureDrives as Drives>⟧.size ⟦<SureDrives as Drives>⟧.moment ⟦<SureDrives as Drives>⟧.seen
+            ⟦<SureDrives as Drives>⟧.may_leave ⟦<SureDrives as Drives>⟧.faults ⟦<SureDrives as Drives>⟧.last_fault
+            (replicate (1024 * blocks) 0) (replicate (1024 * blocks) 0)) }
+    {
+        let len = 1024 * blocks as usize;
+        let a = vec![in alloc; 0; len]?;
+        let b = vec![in alloc; 0; len]?;
+        SureDrives::of_halves(alloc, a, b)
+    }
+
+    /// Halves of these bytes, all of them synced. It takes no memory.
+    pub fn of_halves(_alloc: Global, a: Vec<u8>, b: Vec<u8>) -> Result<SureDrives, Memory>
+        requires equal { vec_len b ≡ vec_len a }
+        requires whole { IsHalfLength (vec_len a) }
+        ensures memory { IsOk result }
+        ensures fresh { IfOk result (IsNew ⟦<SureDrives as Drives>⟧.size ⟦<SureDrives as Drives>⟧.moment ⟦<SureDrives as Drives>⟧.seen
+            ⟦<SureDrives as Drives>⟧.may_leave ⟦<SureDrives as Drives>⟧.faults ⟦<SureDrives as Drives>⟧.last_fault a.items b.items) }
+    {
+        let blocks = (a.len() / 1024) as u32;
+        Ok(SureDrives {
+            a: SureHalf::new(a),
+            b: SureHalf::new(b),
+            blocks,
+            time: 0,
+        })
+    }
+
+    /// The bytes that reads of a half give.
+    pub fn half_bytes(&self, half: Half) -> &[u8]
+        ensures { result.now ≡ ⟦<SureDrives as Drives>⟧.seen self.now half }
+    {
+        match half {
+            Half::A => &self.a.bytes,
+            Half::B => &self.b.bytes,
+        }
+    }
 
     // A moment passes. There is none to pass at the clock's end, and the half fails there.
     fn tick(&mut self, half: Half) -> Result<(), Failed>
