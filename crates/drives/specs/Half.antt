@@ -12,3 +12,8 @@ other B = A
 abbrev pub half_place : Half → ℕ
 half_place A = 0
 half_place B = 1
+
+-- what stands for one of two halves
+abbrev pub one_of : {T : Type 0} → T → T → Half → T
+one_of a b A = a
+one_of a b B = b

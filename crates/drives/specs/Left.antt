@@ -5,6 +5,7 @@ use Rattle.drives.specs.declared.device.Half.TheVariants.{A, B}
 use Rattle.drives.specs.declared.call.Event.{Event}
 use Rattle.drives.specs.declared.mem_half.MemHalf.{MemHalf}
 use Rattle.drives.specs.declared.memory.MemDrives.{MemDrives}
+use Rattle.drives.specs.Half.{one_of}
 use Rattle.drives.specs.Images.{IsImage}
 use Rattle.drives.specs.Replay.{State, state_at, replayed}
 
@@ -25,5 +26,8 @@ moment_after events = min (length events) (2 ^ 64 - 1)
 
 -- one of the halves
 abbrev pub mem_half : MemDrives → Half → MemHalf
-mem_half d A = d.a
-mem_half d B = d.b
+mem_half d h = one_of d.a d.b h
+
+-- the numbers of the calls that fail
+abbrev pub failing_calls : MemDrives → List ℕ
+failing_calls d = d.failing.items

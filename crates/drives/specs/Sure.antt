@@ -6,6 +6,7 @@ use Rattle.drives.specs.declared.history.Span.{Span}
 use Rattle.drives.specs.declared.sure.Moment.{Moment}
 use Rattle.drives.specs.declared.sure.SureHalf.{SureHalf}
 use Rattle.drives.specs.declared.sure.SureDrives.{SureDrives}
+use Rattle.drives.specs.Half.{one_of}
 use Rattle.drives.specs.Images.{IsImage}
 
 -- an image of a moment that has passed; the newest comes first, and moment t is the one with t moments behind it
@@ -19,8 +20,7 @@ IsLeft half t c = ((t ≡ length half.past) × IsImage half.spans half.bytes.ite
 
 -- one of the halves
 abbrev pub sure_half : SureDrives → Half → SureHalf
-sure_half d A = d.a
-sure_half d B = d.b
+sure_half d h = one_of d.a d.b h
 
 -- the present moment of a half has become one that has passed
 pub record Remembers (before after : SureHalf) : Type 0 where

@@ -78,6 +78,9 @@ pub trait Drives {
     /// The moment of a half's last fault, 0 before the first.
     ghost last_fault: { Self → Half → ℕ };
 
+    /// Whether the next call is known to fail. By default nothing is known.
+    ghost refuses: { Self → Type 0 } = { λ _. ⊥ };
+
     /// The number of blocks of each half, at least 1. It never changes.
     fn blocks(&self) -> u32
         ensures { result ≡ size self.now };
@@ -95,6 +98,7 @@ pub trait Drives {
         ensures time { Ticks (moment self.old) (moment self.new) }
         ensures past { SamePast (moment self.new) (may_leave self.old) (may_leave self.new) }
         ensures ends { moment self.old ≡ 2 ^ 64 - 1 → IsErr result }
+        ensures refused { refuses self.old → IsErr result }
         ensures size { size self.new ≡ size self.old }
         ensures cause { HasFault (faults self.old half) (faults self.new half) (last_fault self.old half) (last_fault self.new half) (moment self.new) result }
         ensures other { (faults self.new (other half) ≡ faults self.old (other half)) × (last_fault self.new (other half) ≡ last_fault self.old (other half)) };
@@ -112,6 +116,7 @@ pub trait Drives {
         ensures time { Ticks (moment self.old) (moment self.new) }
         ensures past { SamePast (moment self.new) (may_leave self.old) (may_leave self.new) }
         ensures ends { moment self.old ≡ 2 ^ 64 - 1 → IsErr result }
+        ensures refused { refuses self.old → IsErr result }
         ensures size { size self.new ≡ size self.old }
         ensures cause { HasFault (faults self.old half) (faults self.new half) (last_fault self.old half) (last_fault self.new half) (moment self.new) result }
         ensures other { (faults self.new (other half) ≡ faults self.old (other half)) × (last_fault self.new (other half) ≡ last_fault self.old (other half)) };
@@ -126,6 +131,7 @@ pub trait Drives {
         ensures time { Ticks (moment self.old) (moment self.new) }
         ensures past { SamePast (moment self.new) (may_leave self.old) (may_leave self.new) }
         ensures ends { moment self.old ≡ 2 ^ 64 - 1 → IsErr result }
+        ensures refused { refuses self.old → IsErr result }
         ensures size { size self.new ≡ size self.old }
         ensures cause { HasFault (faults self.old half) (faults self.new half) (last_fault self.old half) (last_fault self.new half) (moment self.new) result }
         ensures other { (faults self.new (other half) ≡ faults self.old (other half)) × (last_fault self.new (other half) ≡ last_fault self.old (other half)) };

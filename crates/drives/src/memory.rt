@@ -34,6 +34,7 @@ pub struct MemDrives {
 // A moment passes, and the call of its number fails where it is listed, or where the clock has ended.
 fn tick(time: &mut u64, failing: &Vec<u64>) -> bool
     ensures time { Ticks time.old time.new }
+    ensures listed { Contains failing.now.items (time.old + 1) → IsTrue result }
     ensures refused { IsTrue result ↔ ((time.old ≡ 2 ^ 64 - 1) ⊎ Contains failing.now.items time.new) }
 {
     if *time == u64::MAX {
@@ -45,7 +46,7 @@ fn tick(time: &mut u64, failing: &Vec<u64>) -> bool
 
 impl MemDrives {
     ghost use Rattle.drives.specs.declared.device.Half.{Half};
-    ghost use Rattle.drives.specs.Left.{mem_half, recorded_at};
+    ghost use Rattle.drives.specs.Left.{failing_calls, mem_half, recorded_at};
     ghost use Rattle.drives.specs.Replay.{IsPicked};
 
     /// Halves of `blocks` blocks of zeros.
@@ -106,14 +107,17 @@ impl MemDrives {
 
     /// From now on the calls of these numbers fail, and no others.
     pub fn fail_at(&mut self, calls: Vec<u64>)
-        ensures { self.new ≡ record self.old { failing = calls } }
+        ensures listed { failing_calls self.new ≡ calls.items }
+        ensures halves { (h : Half) → mem_half self.new h ≡ mem_half self.old h }
+        ensures size { ⟦<MemDrives as Drives>⟧.size self.new ≡ ⟦<MemDrives as Drives>⟧.size self.old }
+        ensures moment { ⟦<MemDrives as Drives>⟧.moment self.new ≡ ⟦<MemDrives as Drives>⟧.moment self.old }
     {
         self.failing = calls;
     }
 }
 
 impl Drives for MemDrives {
-    ghost use Rattle.drives.specs.Left.{mem_half, IsMemLeft};
+    ghost use Rattle.drives.specs.Left.{failing_calls, mem_half, IsMemLeft};
 
     ghost tells = { Unit {0} };
 
@@ -128,6 +132,8 @@ impl Drives for MemDrives {
     ghost faults = { λ d h. (mem_half d h).faults.count };
 
     ghost last_fault = { λ d h. (mem_half d h).faults.last };
+
+    ghost refuses = { λ d. Contains (failing_calls d) (d.time + 1) };
 
     fn blocks(&self) -> u32 {
         self.blocks

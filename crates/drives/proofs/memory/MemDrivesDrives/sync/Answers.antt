@@ -19,6 +19,9 @@ returns-in-A-clause-past c =
     (λ t x low. let early : t < moment_after c.sync.new.self.events = omega arith in c.sync.ensures.past t x early)
     (λ t x low. let early : t < moment_after c.idle.new.self.events = omega arith in c.idle.ensures.past t x early)
 
+pub returns-in-A-clause-refused : goal.returns-in-A-clause-refused
+returns-in-A-clause-refused c = λ listed. c.sync.ensures.refused (c.tick-refused.ensures.listed listed)
+
 pub returns-in-B-clause-durable : goal.returns-in-B-clause-durable
 returns-in-B-clause-durable c = λ _. rw c.in-B.is c.sync-in-B.ensures.durable
 
@@ -33,3 +36,6 @@ returns-in-B-clause-past c =
     each_half _
     (λ t x low. let early : t < moment_after c.idle-in-B.new.self.events = omega arith in c.idle-in-B.ensures.past t x early)
     (λ t x low. let early : t < moment_after c.sync-in-B.new.self.events = omega arith in c.sync-in-B.ensures.past t x early)
+
+pub returns-in-B-clause-refused : goal.returns-in-B-clause-refused
+returns-in-B-clause-refused c = λ listed. c.sync-in-B.ensures.refused (c.tick-refused.ensures.listed listed)
