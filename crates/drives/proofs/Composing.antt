@@ -41,10 +41,10 @@ module _ {D X : Type 0} (moment : D → ℕ) (may_leave : D → ℕ → X → Ty
         let still : moment mid ≡ moment old = omega (arith, e, a, b) in
         let still' : moment new ≡ moment mid = omega (arith, e, a, b) in
         elim (first.stuck still) [
-          inl ended ↦ inl ended
-        | inr same ↦ elim (second.stuck still') [
-            inl ended ↦ inl (sym still ∙ ended)
-          | inr same' ↦ inr (λ x. iff_trans (subst (λ (t : ℕ). may_leave new t x ↔ may_leave mid t x) still (same' x)) (same x))
+          | inl ended ↦ inl ended
+          | inr same ↦ elim (second.stuck still') [
+            | inl ended ↦ inl (sym still ∙ ended)
+            | inr same' ↦ inr (λ x. iff_trans (subst (λ (t : ℕ). may_leave new t x ↔ may_leave mid t x) still (same' x)) (same x))
           ]
         ]
 
@@ -53,28 +53,28 @@ module _ {D X : Type 0} (moment : D → ℕ) (may_leave : D → ℕ → X → Ty
         let a = first.later in
         let then : may_leave new t x ↔ may_leave mid t x = second.past t x (omega (arith, low, a)) high in
         elim (before_or_not t (moment mid)) [
-          inl early ↦ iff_trans then (first.past t x low early)
-        | inr late ↦
-          let still : moment mid ≡ moment old = omega (arith, low, late, a) in
-          let here : moment old ≡ t = omega (arith, low, late, a) in
-          let last = second.last in
-          elim (first.stuck still) [
-            inl ended ↦ absurd (omega (arith, ended, here, high, last))
-          | inr same ↦ iff_trans then (subst (λ (s : ℕ). may_leave mid s x ↔ may_leave old s x) here (same x))
-          ]
+          | inl early ↦ iff_trans then (first.past t x low early)
+          | inr late ↦
+              let still : moment mid ≡ moment old = omega (arith, low, late, a) in
+              let here : moment old ≡ t = omega (arith, low, late, a) in
+              let last = second.last in
+              elim (first.stuck still) [
+                | inl ended ↦ absurd (omega (arith, ended, here, high, last))
+                | inr same ↦ iff_trans then (subst (λ (s : ℕ). may_leave mid s x ↔ may_leave old s x) here (same x))
+              ]
         ]
 
     both_own : (t : ℕ) (z : X) → moment old ≤ t → t ≤ moment new → may_leave new t z → (x : X) × may_leave old (moment old) x × R x z
     both_own t z low high left =
         elim (before_or_not t (moment mid)) [
-          inl early ↦
-          let b = second.later in
-          let from = first.own t z low (omega (arith, early)) ((second.past t z (omega (arith, early)) (omega (arith, early, b))).0 left) in
-          (from.0, from.1, by_first from.0 z from.1 from.2)
-        | inr late ↦
-          let then = second.own t z late high left in
-          let from = now then.0 then.1 in
-          (from.0, from.1, by_second from.0 then.0 z from.1 from.2 then.2)
+          | inl early ↦
+              let b = second.later in
+              let from = first.own t z low (omega (arith, early)) ((second.past t z (omega (arith, early)) (omega (arith, early, b))).0 left) in
+              (from.0, from.1, by_first from.0 z from.1 from.2)
+          | inr late ↦
+              let then = second.own t z late high left in
+              let from = now then.0 then.1 in
+              (from.0, from.1, by_second from.0 then.0 z from.1 from.2 then.2)
         ]
 
     pub goes_on : Changes moment may_leave old new R
@@ -100,8 +100,8 @@ module _ {D X Y : Type 0} (moment : D → ℕ) (may_leave : D → ℕ → X → 
     later = changes.later;
     last = changes.last;
     stuck = λ e. elim (changes.stuck e) [
-      inl ended ↦ inl ended
-    | inr same ↦ inr (λ y. (
+      | inl ended ↦ inl ended
+      | inr same ↦ inr (λ y. (
         λ left. (left.0, (same left.0).0 left.1, left.2),
         λ left. (left.0, (same left.0).1 left.1, left.2),
       ))
@@ -111,9 +111,9 @@ module _ {D X Y : Type 0} (moment : D → ℕ) (may_leave : D → ℕ → X → 
       λ left. (left.0, (changes.past t left.0 low high).1 left.1, left.2),
     );
     own = λ t y' low high left.
-      let from = changes.own t left.0 low high left.1 in
-      let seen = through from.0 left.0 y' from.1 from.2 left.2 in
-      (seen.0, (from.0, from.1, seen.1), seen.2);
+        let from = changes.own t left.0 low high left.1 in
+        let seen = through from.0 left.0 y' from.1 from.2 left.2 in
+        (seen.0, (from.0, from.1, seen.1), seen.2);
   }
 
 -- one call of two halves
@@ -133,12 +133,12 @@ module _ {D : Type 0} (moment : D → ℕ) (may_leave : D → Half → ℕ → L
   call_own : (t : ℕ) (x : Halves) → moment old ≤ t → t ≤ moment new → HalvesLeft may_leave new t x → (y : Halves) × HalvesLeft may_leave old (moment old) y × OnHalves R y x
   call_own t x low high left =
       elim (before_or_not t (moment new)) [
-        inl early ↦
-        let here : t ≡ moment old = omega (arith, low, early, time, clock) in
-        (x, subst (λ (s : ℕ). HalvesLeft may_leave old s x) here ((call_past t x early).0 left), (same A x.a, same B x.b))
-      | inr late ↦
-        let here : t ≡ moment new = omega (arith, high, late) in
-        call_now x (subst (λ (s : ℕ). HalvesLeft may_leave new s x) here left)
+        | inl early ↦
+            let here : t ≡ moment old = omega (arith, low, early, time, clock) in
+            (x, subst (λ (s : ℕ). HalvesLeft may_leave old s x) here ((call_past t x early).0 left), (same A x.a, same B x.b))
+        | inr late ↦
+            let here : t ≡ moment new = omega (arith, high, late) in
+            call_now x (subst (λ (s : ℕ). HalvesLeft may_leave new s x) here left)
       ]
 
   pub call_changes : Changes moment (HalvesLeft may_leave) old new (OnHalves R)

@@ -56,7 +56,7 @@ agrees_at first t (Made what ∷ events) =
     let s = state_at first t events in
     let same = agrees_at first t events in
     let stepped : Agrees (replay_step t p (record { when = next_call (length events); what = what.value })) (state_at first t (Made what ∷ events)) =
-      both_if (nat_le (next_call (length events)) t) p (done what.value p) s (done what.value s) same (done_agrees what.value p s same) in
+    both_if (nat_le (next_call (length events)) t) p (done what.value p) s (done what.value s) same (done_agrees what.value p s same) in
     subst (λ (q : State). Agrees q (state_at first t (Made what ∷ events))) (sym (fold_last t (start first) (recorded events) (record { when = next_call (length events); what = what.value }))) stepped
 agrees_at first t (Lost at len ∷ events) =
     let p = replayed first t (recorded events) in

@@ -38,23 +38,23 @@ order i n = grind arith
 pub spliced_outside : (at n : ℕ) (inner outer : List ℕ) (i : ℕ) → IsOutside at n i → slice_index (spliced at n inner outer) i ≡ slice_index outer i
 spliced_outside at n inner outer i h =
     elim (order i (length outer)) [
-      inl low ↦ spliced_at at n inner outer i low ∙ picked_outside at n inner outer i h
-    | inr high ↦ past_end (spliced at n inner outer) i (omega (arith, length-spliced at n inner outer)) ∙ sym (past_end outer i high)
+      | inl low ↦ spliced_at at n inner outer i low ∙ picked_outside at n inner outer i h
+      | inr high ↦ past_end (spliced at n inner outer) i (omega (arith, length-spliced at n inner outer)) ∙ sym (past_end outer i high)
     ]
 
 pub spliced_inside : (at n : ℕ) (inner outer : List ℕ) (i : ℕ) → length inner ≡ length outer → at ≤ i → i < at + n → slice_index (spliced at n inner outer) i ≡ slice_index inner i
 spliced_inside at n inner outer i e low high =
     elim (order i (length outer)) [
-      inl short ↦ spliced_at at n inner outer i short ∙ picked_inside at n inner outer i low high
-    | inr long ↦ past_end (spliced at n inner outer) i (omega (arith, length-spliced at n inner outer)) ∙ sym (past_end inner i (omega arith))
+      | inl short ↦ spliced_at at n inner outer i short ∙ picked_inside at n inner outer i low high
+      | inr long ↦ past_end (spliced at n inner outer) i (omega (arith, length-spliced at n inner outer)) ∙ sym (past_end inner i (omega arith))
     ]
 
 -- an offset is before the range, behind it, or within it
 place : (at n i : ℕ) → IsOutside at n i ⊎ ((at ≤ i) × (i < at + n))
 place at n i =
     elim (order i at) [
-      inl low ↦ inl (inl low)
-    | inr high ↦ elim (order i (at + n)) [ inl within ↦ inr (high, within) | inr behind ↦ inl (inr behind) ]
+      | inl low ↦ inl (inl low)
+      | inr high ↦ elim (order i (at + n)) [ inl within ↦ inr (high, within) | inr behind ↦ inl (inr behind) ]
     ]
 
 -- whichever bytes a torn half has, they came from an image that had its old bytes there
@@ -63,13 +63,12 @@ torn_from spans s at n before after c torn here long image =
     let d = spliced at n before c in
     let lengths : length before ≡ length c = omega (arith, torn.size, image.size) in
     let untouched : (i : ℕ) → IsUntouched spans i → slice_index d i ≡ slice_index before i =
-      λ i free. elim (place at n i) [
-        inl outside ↦ spliced_outside at n before c i outside
+    λ i free. elim (place at n i) [
+      | inl outside ↦ spliced_outside at n before c i outside
           ∙ image.untouched i (subst (λ (x : ℕ). IsOutside x s.len i) (sym here) (subst (λ (y : ℕ). IsOutside at y i) (sym long) outside), free)
           ∙ torn.outside i outside
       | inr inside ↦ spliced_inside at n before c i lengths inside.0 inside.1
-      ] in
-    (
+    ] in (
       d,
       record { size = length-spliced at n before c ∙ sym lengths; untouched = untouched },
       record { size = sym (length-spliced at n before c); outside = λ i outside. sym (spliced_outside at n before c i outside) },
@@ -90,6 +89,6 @@ torn_each spans spans' s at n before after torn is here long d c image torn' =
     subst (λ (x : List Span). IsImage x after c) (sym is) (record {
       size = omega (arith, torn.size, torn'.size, image.size);
       untouched = λ i free.
-        let outside = subst (λ (x : ℕ). IsOutside x n i) here (subst (λ (y : ℕ). IsOutside s.at y i) long free.0) in
-        torn'.outside i outside ∙ image.untouched i free.1 ∙ sym (torn.outside i outside);
+          let outside = subst (λ (x : ℕ). IsOutside x n i) here (subst (λ (y : ℕ). IsOutside s.at y i) long free.0) in
+          torn'.outside i outside ∙ image.untouched i free.1 ∙ sym (torn.outside i outside);
     })

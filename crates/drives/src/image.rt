@@ -4,11 +4,10 @@ ghost use Rattle.drives.specs.Crash.{Torn};
 ghost use Rattle.drives.specs.Replay.{State, what_fits, calls_fit, replay_step, replayed};
 ghost use Rattle.drives.specs.Picked.{Touches, Tears, IsReplayed};
 
-use std::alloc::Global;
-
 use crate::bytes::write_over;
 use crate::call::{Call, Pick, What};
 use crate::out_of_memory::Memory;
+use std::alloc::Global;
 
 // One byte over a whole range.
 fn fill(half: &mut Vec<u8>, at: u64, len: u64, byte: u8)
@@ -68,7 +67,13 @@ fn replay(call: &Call, moment: u64, pick: Pick, bytes: &mut Vec<u8>, image: &mut
 }
 
 /// The image that a pick names, after the recorded calls up to a moment on a half that began with `first`.
-pub fn image_at(alloc: Global, first: &Vec<u8>, calls: &Vec<Call>, moment: u64, pick: Pick) -> Result<Vec<u8>, Memory>
+pub fn image_at(
+    alloc: Global,
+    first: &Vec<u8>,
+    calls: &Vec<Call>,
+    moment: u64,
+    pick: Pick,
+) -> Result<Vec<u8>, Memory>
     requires { calls_fit (length first.now.items) calls.now.items ≡ true }
     ensures length { IfOk result (λ image. length image.items ≡ length first.now.items) }
     ensures replayed { IfOk result (λ image. IsReplayed pick (replayed first.now.items moment calls.now.items)

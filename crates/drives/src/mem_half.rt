@@ -4,15 +4,14 @@ ghost use Rattle.drives.specs.Crash.{HasAt, LeavesEachTorn, LeavesOnly, LeavesNo
 ghost use Rattle.drives.specs.Faults.{HasFault};
 ghost use Rattle.drives.specs.Replay.{state, recorded, calls_fit, next_call, IsPicked, IsWriteOf};
 
-use std::alloc::Global;
-use std::snapshot::Snapshot;
-
 use crate::Failed;
 use crate::bytes::{copy_out, write_over};
 use crate::call::{Call, Event, Pick, What};
 use crate::history::Remembered;
 use crate::image::image_at;
 use crate::out_of_memory::Memory;
+use std::alloc::Global;
+use std::snapshot::Snapshot;
 
 /// How often a half has failed, and the moment of its last fault, 0 before the first.
 #[derive(Drop)]

@@ -1,15 +1,14 @@
 // Halves in memory whose calls can be made to fail, and whose images can be had.
-ghost use Rattle.std.specs.Prelude.{◌≡◌, ◌⊎◌, ◌↔◌, ℕ, ◌+◌, ◌-◌, ◌*◌, ◌^◌, ◌<◌, ◌≤◌, min, List, length, vec_len, replicate, IfOk, IsTrue, Contains};
+ghost use Rattle.std.specs.Prelude.{◌≡◌, ◌⊎◌, ◌↔◌, ℕ, ◌+◌, ◌-◌, ◌*◌, ◌^◌, ◌<◌, ◌≤◌, min, List, length, vec_len, IfOk, IsTrue, Contains};
 ghost use Rattle.drives.specs.Crash.{Ticks};
-ghost use Rattle.drives.specs.New.{IsHalfLength, IsNew};
-
-use std::alloc::Global;
+ghost use Rattle.drives.specs.New.{IsHalfLength, IsNew, blank_bytes};
 
 use crate::Failed;
 use crate::call::Pick;
 use crate::device::{Drives, Half};
 use crate::mem_half::MemHalf;
 use crate::out_of_memory::Memory;
+use std::alloc::Global;
 
 /// Two halves in memory with a list of the call numbers that fail.
 #[derive(Drop)]
@@ -53,9 +52,10 @@ impl MemDrives {
     pub fn blank(alloc: Global, blocks: u32) -> Result<MemDrives, Memory>
         requires some { 1 ≤ blocks }
         requires most { blocks ≤ 65536 }
-        ensures { IfOk result (IsNew ⟦<MemDrives as Drives>⟧.size ⟦<MemDrives as Drives>⟧.moment ⟦<MemDrives as Drives>⟧.seen
+        ensures size { IfOk result (λ d. ⟦<MemDrives as Drives>⟧.size d ≡ blocks) }
+        ensures fresh { IfOk result (IsNew ⟦<MemDrives as Drives>⟧.size ⟦<MemDrives as Drives>⟧.moment ⟦<MemDrives as Drives>⟧.seen
             ⟦<MemDrives as Drives>⟧.may_leave ⟦<MemDrives as Drives>⟧.faults ⟦<MemDrives as Drives>⟧.last_fault
-            (replicate (1024 * blocks) 0) (replicate (1024 * blocks) 0)) }
+            (blank_bytes blocks) (blank_bytes blocks)) }
     {
         let len = 1024 * blocks as usize;
         let a = vec![in alloc; 0; len]?;
@@ -102,7 +102,11 @@ impl MemDrives {
         ensures left { IfOk result (λ d. (h : Half) → ⟦<MemDrives as Drives>⟧.may_leave self.now h moment (⟦<MemDrives as Drives>⟧.seen d h)) }
         ensures picked { IfOk result (λ d. (h : Half) → IsPicked pick (recorded_at (mem_half self.now h) moment) (⟦<MemDrives as Drives>⟧.seen d h)) }
     {
-        MemDrives::of_halves(self.alloc, self.a.image(moment, pick)?, self.b.image(moment, pick)?)
+        MemDrives::of_halves(
+            self.alloc,
+            self.a.image(moment, pick)?,
+            self.b.image(moment, pick)?,
+        )
     }
 
     /// From now on the calls of these numbers fail, and no others.

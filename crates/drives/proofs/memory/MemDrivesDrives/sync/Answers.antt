@@ -8,7 +8,7 @@ pub returns-in-A-clause-durable : goal.returns-in-A-clause-durable
 returns-in-A-clause-durable c = λ _. rw c.in-A.is c.sync.ensures.durable
 
 pub returns-in-A-clause-crash_failed : goal.returns-in-A-clause-crash_failed
-returns-in-A-clause-crash_failed c = 
+returns-in-A-clause-crash_failed c =
     let before = c.args.self.now in
     let same = subst (λ (t : ℕ). OnErr c.sync.result (LeavesSame (IsMemLeft before.a t) (IsMemLeft c.sync.new.self c.tick-refused.new.time))) before.moment_a c.sync.ensures.crash_failed in
     rw c.in-A.is same
@@ -26,7 +26,7 @@ pub returns-in-B-clause-durable : goal.returns-in-B-clause-durable
 returns-in-B-clause-durable c = λ _. rw c.in-B.is c.sync-in-B.ensures.durable
 
 pub returns-in-B-clause-crash_failed : goal.returns-in-B-clause-crash_failed
-returns-in-B-clause-crash_failed c = 
+returns-in-B-clause-crash_failed c =
     let before = c.args.self.now in
     let same = subst (λ (t : ℕ). OnErr c.sync-in-B.result (LeavesSame (IsMemLeft before.b t) (IsMemLeft c.sync-in-B.new.self c.tick-refused.new.time))) before.moment_b c.sync-in-B.ensures.crash_failed in
     rw c.in-B.is same
