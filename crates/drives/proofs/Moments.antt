@@ -1,5 +1,5 @@
 -- A memory half at its last moment, at the next one and at those that have passed.
-use Rattle.std.proofs.Common.{◌≡◌, ◌⊎◌, inl, inr, ℕ, ◌+◌, ◌-◌, ◌^◌, ◌<◌, ◌≤◌, min, Bool, true, false, cond, leb, List, [], ◌∷◌, ◌++◌, length, refl, sym, ◌∙◌, ap, subst, arith, ◌↔◌, slice_index}
+use Rattle.std.proofs.Common.{◌≡◌, inl, inr, ℕ, ◌+◌, ◌<◌, ◌≤◌, Bool, false, List, [], ◌∷◌, length, refl, sym, ◌∙◌, ap, subst, arith, ◌↔◌, slice_index}
 use Rattle.std.specs.Prelude.{nat_le, if◌then◌else◌}
 use Rattle.std.proofs.lemmas.Bool.Decides.{nat_tests}
 use Rattle.std.proofs.lemmas.Grind.{common_steps}
@@ -8,10 +8,9 @@ use Rattle.drives.specs.declared.history.Span.{Span}
 use Rattle.drives.specs.declared.call.What.{What}
 use Rattle.drives.specs.declared.call.What.TheVariants.{Write, Tear, Sync}
 use Rattle.drives.specs.declared.call.Event.{Event}
-use Rattle.drives.specs.declared.call.Event.TheVariants.{Made, Lost, Idle}
 use Rattle.drives.specs.Crash.{IsOutside, Torn, LeavesTorn, LeavesEachTorn, LeavesSame, LeavesNoMore, LeavesOnly}
-use Rattle.drives.specs.Images.{IsUntouched, IsImage}
-use Rattle.drives.specs.Replay.{State, start, happened, done, overwritten, state, state_at, next_call, IsWriteOf}
+use Rattle.drives.specs.Images.{IsImage}
+use Rattle.drives.specs.Replay.{State, happened, done, overwritten, state, state_at, next_call, IsWriteOf}
 use Rattle.drives.specs.Left.{IsLeftBy, moment_after}
 use Rattle.drives.specs.LeftLaws.{state_now}
 use Rattle.drives.proofs.Tearing.{torn_image, torn_each}

@@ -1,15 +1,14 @@
 -- The recorded calls give the bytes of each moment, and no range that was not written.
-use Rattle.std.proofs.Common.{◌≡◌, ◌⊎◌, inl, inr, ℕ, ◌+◌, ◌≤◌, Bool, true, false, List, [], ◌∷◌, ◌++◌, length, fold, slice_index, refl, sym, ◌∙◌, ap, subst}
+use Rattle.std.proofs.Common.{◌≡◌, ◌⊎◌, inl, inr, ℕ, Bool, true, false, List, [], ◌∷◌, ◌++◌, length, fold, slice_index, refl, sym, ◌∙◌, ap, subst}
 use Rattle.std.specs.Prelude.{nat_le, if◌then◌else◌}
-use Rattle.drives.specs.declared.history.Span.{Span}
 use Rattle.drives.specs.declared.call.What.{What}
 use Rattle.drives.specs.declared.call.What.TheVariants.{Write, Tear, Sync}
 use Rattle.drives.specs.declared.call.Call.{Call}
 use Rattle.drives.specs.declared.call.Event.{Event}
 use Rattle.drives.specs.declared.call.Event.TheVariants.{Made, Lost, Idle}
 use Rattle.drives.specs.declared.call.Pick.{Pick}
-use Rattle.drives.specs.Images.{IsUntouched, IsImage}
-use Rattle.drives.specs.Replay.{State, start, done, happened, torn, overwritten, state_at, next_call, recorded, replay_step, replayed}
+use Rattle.drives.specs.Images.{IsUntouched}
+use Rattle.drives.specs.Replay.{State, start, done, torn, overwritten, state_at, next_call, recorded, replay_step, replayed}
 use Rattle.drives.specs.Picked.{IsReplayed}
 use Rattle.drives.specs.Left.{IsLeftBy}
 

@@ -1,5 +1,5 @@
 -- What a crash may leave of a half: its bytes, but anything in the ranges that were written since the last sync.
-use Rattle.std.specs.Prelude.{◌≡◌, ◌⊎◌, ℕ, ◌<◌, List, [], ◌∷◌, length, slice_index}
+use Rattle.std.specs.Prelude.{◌≡◌, ℕ, List, [], ◌∷◌, length, slice_index}
 use Rattle.drives.specs.declared.history.Span.{Span}
 use Rattle.drives.specs.Crash.{IsOutside}
 

@@ -1,7 +1,6 @@
 -- What a crash may leave of a memory half.
 use Rattle.std.specs.Prelude.{ℕ, ◌-◌, ◌^◌, min, List, length}
 use Rattle.drives.specs.declared.device.Half.{Half}
-use Rattle.drives.specs.declared.device.Half.TheVariants.{A, B}
 use Rattle.drives.specs.declared.call.Event.{Event}
 use Rattle.drives.specs.declared.mem_half.MemHalf.{MemHalf}
 use Rattle.drives.specs.declared.memory.MemDrives.{MemDrives}

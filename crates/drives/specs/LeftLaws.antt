@@ -1,15 +1,14 @@
 -- Why the images of memory halves are whole, and why what reads give is one of them.
-use Rattle.std.specs.Prelude.{◌≡◌, ℕ, ◌*◌, ◌≤◌, ◌-◌, ◌^◌, min, Bool, true, nat_le, if◌then◌else◌, List, [], ◌∷◌, length, slice_index}
-use Rattle.std.proofs.Common.{refl, sym, ◌∙◌, ap, subst, arith}
+use Rattle.std.specs.Prelude.{◌≡◌, ℕ, ◌*◌, ◌≤◌, Bool, true, nat_le, if◌then◌else◌, List, [], ◌∷◌, length, slice_index}
+use Rattle.std.proofs.Common.{refl, sym, ◌∙◌, ap, arith}
 use Rattle.std.proofs.lemmas.Bool.Decides.{nat_tests}
 use Rattle.drives.specs.declared.device.Half.{Half}
 use Rattle.drives.specs.declared.device.Half.TheVariants.{A, B}
 use Rattle.drives.specs.declared.call.Event.{Event}
 use Rattle.drives.specs.declared.mem_half.MemHalf.{MemHalf}
 use Rattle.drives.specs.declared.memory.MemDrives.{MemDrives}
-use Rattle.drives.specs.Images.{IsUntouched, IsImage}
 use Rattle.drives.specs.Replay.{State, happened, state, state_at, next_call}
-use Rattle.drives.specs.Left.{IsLeftBy, IsMemLeft, moment_after, mem_half}
+use Rattle.drives.specs.Left.{IsMemLeft, moment_after, mem_half}
 
 told_le : (a b : ℕ) → a ≤ b → nat_le a b ≡ true
 told_le a b h = Prim.grind (arith, nat_tests)

@@ -1,6 +1,6 @@
 -- Halves that were just made.
-use Rattle.std.specs.Prelude.{◌≡◌, ℕ, ◌*◌, ◌/◌, ◌%◌, ◌≤◌, List, length, replicate, slice_index}
-use Rattle.std.proofs.Common.{arith, zero, suc, refl}
+use Rattle.std.specs.Prelude.{◌≡◌, ℕ, ◌*◌, ◌%◌, ◌≤◌, List, length, replicate, slice_index}
+use Rattle.std.proofs.Common.{zero, suc, refl}
 use Rattle.std.proofs.lemmas.List.{length-replicate}
 use Rattle.drives.specs.declared.device.Half.{Half}
 use Rattle.drives.specs.declared.device.Half.TheVariants.{A, B}

@@ -1,5 +1,5 @@
 -- What the calls of memory halves left, moment by moment.
-use Rattle.std.specs.Prelude.{◌≡◌, ℕ, ◌+◌, ◌-◌, ◌*◌, ◌^◌, ◌<◌, ◌≤◌, min, Bool, true, ◌&&◌, nat_le, if◌then◌else◌, List, [], ◌∷◌, ◌++◌, length, take, drop, fold, slice_index}
+use Rattle.std.specs.Prelude.{◌≡◌, ℕ, ◌+◌, ◌-◌, ◌^◌, ◌<◌, min, Bool, true, nat_le, if◌then◌else◌, List, [], ◌∷◌, ◌++◌, length, take, drop, fold, slice_index}
 use Rattle.std.specs.List.{list_all}
 use Rattle.drives.specs.declared.history.Span.{Span}
 use Rattle.drives.specs.declared.call.What.{What}
@@ -9,8 +9,7 @@ use Rattle.drives.specs.declared.call.Event.{Event}
 use Rattle.drives.specs.declared.call.Event.TheVariants.{Made, Lost, Idle}
 use Rattle.drives.specs.declared.call.Pick.{Pick}
 use Rattle.drives.specs.declared.call.Pick.TheVariants.{Old, New, Fill}
-use Rattle.drives.specs.Crash.{IsOutside}
-use Rattle.drives.specs.Images.{IsUntouched, IsImage}
+use Rattle.drives.specs.Images.{IsUntouched}
 
 -- a half at a moment: its bytes, those of its last sync, and the ranges written since then
 pub record State : Type 0 where

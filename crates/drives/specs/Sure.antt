@@ -1,8 +1,6 @@
 -- The images of halves that remember each moment.
 use Rattle.std.specs.Prelude.{◌≡◌, ◌⊎◌, ℕ, ◌<◌, List, [], ◌∷◌, length}
 use Rattle.drives.specs.declared.device.Half.{Half}
-use Rattle.drives.specs.declared.device.Half.TheVariants.{A, B}
-use Rattle.drives.specs.declared.history.Span.{Span}
 use Rattle.drives.specs.declared.sure.Moment.{Moment}
 use Rattle.drives.specs.declared.sure.SureHalf.{SureHalf}
 use Rattle.drives.specs.declared.sure.SureDrives.{SureDrives}

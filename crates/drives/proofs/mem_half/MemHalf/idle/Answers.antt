@@ -1,4 +1,4 @@
-use Rattle.std.proofs.Common.{◌≡◌, ap}
+use Rattle.std.proofs.Common.{ap}
 use Rattle.drives.specs.declared.call.Event.{Event}
 use Rattle.drives.specs.Replay.{happened, state}
 use Rattle.drives.proofs.Moments.{grown_same}

@@ -1,4 +1,3 @@
-use Rattle.std.proofs.Common.{◌≡◌}
 use Rattle.std.proofs.lemmas.Result.{IfOk-weaker}
 use Rattle.drives.proofs.Recording.{left_by_record}
 use Rattle.drives.proofs.mem_half.MemHalf.image.Goals as goal

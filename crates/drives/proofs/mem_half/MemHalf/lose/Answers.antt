@@ -1,7 +1,6 @@
-use Rattle.std.proofs.Common.{◌≡◌, refl, sym, ◌∙◌, ap, subst, List, ℕ, length, ◌+◌, ◌≤◌}
-use Rattle.drives.specs.declared.call.What.{What}
+use Rattle.std.proofs.Common.{refl, ap}
 use Rattle.drives.specs.declared.call.Event.{Event}
-use Rattle.drives.specs.Replay.{State, happened, done, overwritten, state}
+use Rattle.drives.specs.Replay.{happened, state}
 use Rattle.drives.proofs.Tearing.{untorn}
 use Rattle.drives.proofs.Moments.{tearing_torn, tearing_each}
 use Rattle.drives.proofs.mem_half.MemHalf.lose.Goals as goal

@@ -1,8 +1,6 @@
-use Rattle.std.proofs.Common.{◌≡◌, refl, sym, ◌∙◌, ap, subst, List, ℕ, length, ◌+◌, ◌≤◌}
-use Rattle.drives.specs.declared.call.What.{What}
+use Rattle.std.proofs.Common.{refl, sym, ◌∙◌, ap, subst, List, ℕ, length, ◌+◌, ◌≤◌}
 use Rattle.drives.specs.declared.call.Event.{Event}
-use Rattle.drives.specs.Replay.{State, happened, done, overwritten, state}
-use Rattle.std.proofs.Common.{arith}
+use Rattle.drives.specs.Replay.{happened, state}
 use Rattle.drives.proofs.Moments.{tearing_torn, tearing_each, done_write, overwritten_torn}
 use Rattle.drives.proofs.mem_half.MemHalf.put.Goals as goal
 

@@ -1,7 +1,7 @@
-use Rattle.std.proofs.Common.{◌≡◌, refl, sym, ◌∙◌, ap, subst, List, ℕ, length, ◌+◌, ◌≤◌}
+use Rattle.std.proofs.Common.{◌∙◌, ap, subst, List, ℕ}
 use Rattle.drives.specs.declared.call.What.{What}
 use Rattle.drives.specs.declared.call.Event.{Event}
-use Rattle.drives.specs.Replay.{State, happened, done, overwritten, state}
+use Rattle.drives.specs.Replay.{State, happened, done, state}
 use Rattle.drives.specs.Crash.{LeavesOnly}
 use Rattle.drives.specs.Left.{IsLeftBy, moment_after}
 use Rattle.drives.proofs.Moments.{grown_only, grown_no_more}

@@ -1,4 +1,4 @@
-use Rattle.std.proofs.Common.{◌≡◌, ap, arith, inl, ◌∙◌}
+use Rattle.std.proofs.Common.{ap, arith, inl}
 use Rattle.drives.specs.declared.mem_half.FaultCount.{FaultCount}
 use Rattle.drives.proofs.mem_half.MemHalf.sync.Goals as goal
 

@@ -1,6 +1,5 @@
-use Rattle.std.proofs.Common.{◌≡◌, ◌<◌, ℕ, OnErr, subst, arith}
-use Rattle.drives.specs.Crash.{LeavesSame}
-use Rattle.drives.specs.Left.{IsMemLeft, moment_after}
+use Rattle.std.proofs.Common.{◌<◌, arith}
+use Rattle.drives.specs.Left.{moment_after}
 use Rattle.drives.proofs.Halves.{each_half}
 use Rattle.drives.proofs.memory.MemDrivesDrives.read.Goals as goal
 

@@ -1,4 +1,4 @@
-use Rattle.std.proofs.Common.{◌≡◌, ◌<◌, ℕ, OnErr, subst, arith}
+use Rattle.std.proofs.Common.{◌<◌, ℕ, OnErr, subst, arith}
 use Rattle.drives.specs.Crash.{LeavesSame}
 use Rattle.drives.specs.Left.{IsMemLeft, moment_after}
 use Rattle.drives.proofs.Halves.{each_half}

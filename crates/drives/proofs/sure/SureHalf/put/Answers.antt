@@ -1,4 +1,4 @@
-use Rattle.std.proofs.Common.{◌≡◌, ap, ◌∙◌}
+use Rattle.std.proofs.Common.{ap}
 use Rattle.drives.specs.declared.history.Span.{Span}
 use Rattle.drives.proofs.Tearing.{torn_each, torn_image}
 use Rattle.drives.proofs.sure.SureHalf.put.Goals as goal

@@ -1,4 +1,4 @@
-use Rattle.std.proofs.Common.{◌≡◌, refl, ap, ◌∙◌}
+use Rattle.std.proofs.Common.{refl, ap, ◌∙◌}
 use Rattle.drives.specs.declared.sure.Moment.{Moment}
 use Rattle.drives.proofs.sure.SureHalf.remember.Goals as goal
 
