@@ -1,0 +1,5 @@
+pub mod Tearing
+pub mod Moments
+pub mod Halves
+pub mod Recording
+pub mod Composing

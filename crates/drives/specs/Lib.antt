@@ -1,0 +1,12 @@
+pub mod Half
+pub mod Crash
+pub mod Faults
+pub mod Changes
+pub mod New
+pub mod Remembered
+pub mod Images
+pub mod Sure
+pub mod Replay
+pub mod Picked
+pub mod Left
+pub mod LeftLaws
