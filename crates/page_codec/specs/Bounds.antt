@@ -1,0 +1,97 @@
+-- What the types keep, and which values have a spelling.
+use Rattle.std.specs.Prelude.{◌≡◌, ℕ, ◌<◌, ◌≤◌, ◌^◌, ◌⊎◌, Bool, true, false, Option, List, [], length, is_none, is_some, nat_lt, not, IsTrue, IfSome, IfNone}
+use Rattle.std.specs.List.{AllByRecursion, list_any, list_all}
+use Rattle.ref_flags.specs.Flagged.{Flagged, is_lawful}
+use Rattle.page_codec.specs.Numbers.{IsBytes, or_zero, zeros}
+use Rattle.page_codec.specs.Values.{ReferenceValue, PageValue, MemberValue, VersionValue, EntryValue, RootValue, TableValue}
+
+-- a block number, where there is one, is not 0
+abbrev pub IsNamed : Option ℕ → Type 0
+IsNamed block = IfSome block (λ n. 0 < n)
+
+-- a block number, where there is one, is from 1 to 2^28 - 1
+abbrev pub IsBlockOrNil : Option ℕ → Type 0
+IsBlockOrNil block = IfSome block (λ n. (0 < n) × (n < 2 ^ 28))
+
+-- a slot that names a page
+abbrev pub is_used : ReferenceValue → Bool
+is_used r = is_some r.block
+
+-- what a reference keeps: no block 0, and no marks without a block
+pub record IsSoundReference (r : ReferenceValue) : Type 0 where
+  pub named : IsNamed r.block
+  pub empty : IfNone r.block (r.flags.copied ≡ false)
+
+-- a reference with a spelling
+pub record IsReference (r : ReferenceValue) : Type 0 where
+  pub sound : IsSoundReference r
+  pub lawful : IsTrue (is_lawful r.flags)
+  pub below : IfSome r.block (λ n. n < 2 ^ 28)
+
+-- what a page keeps: a path has at most seven slots, and a page with a path of seven has none in use
+pub record IsSoundPage (p : PageValue) : Type 0 where
+  pub depth : p.level ≤ 7
+  pub leaf : p.level ≡ 7 → list_any is_used p.refs ≡ false
+
+-- a page of any level with a spelling
+pub record IsFrame (p : PageValue) : Type 0 where
+  pub sound : IsSoundPage p
+  pub mask : p.modified < 2 ^ 16
+  pub sixteen : length p.refs ≡ 16
+  pub each : AllByRecursion IsReference p.refs
+  pub fits : length p.bytes ≤ 800
+  pub data_bytes : IsBytes p.bytes
+
+-- a page below `/` with a spelling
+pub record IsPage (p : PageValue) : Type 0 where
+  pub frame : IsFrame p
+  pub below : 1 ≤ p.level
+
+-- what a member keeps
+pub record IsSoundMember (m : MemberValue) : Type 0 where
+  pub object : 1 ≤ m.object
+  pub block : 1 ≤ m.block
+
+-- a member with a spelling
+pub record IsMember (m : MemberValue) : Type 0 where
+  pub sound : IsSoundMember m
+  pub object_below : m.object < 2 ^ 32
+  pub block_below : m.block < 2 ^ 28
+
+-- what a version page keeps
+pub record IsSoundVersion (v : VersionValue) : Type 0 where
+  pub top : v.page.level ≡ 0
+  pub object : 1 ≤ v.object
+  pub serial : 1 ≤ v.serial
+  pub commit : IsNamed v.commit
+  pub base : IsNamed v.base
+
+-- a version page with a spelling
+pub record IsVersion (v : VersionValue) : Type 0 where
+  pub sound : IsSoundVersion v
+  pub frame : IsFrame v.page
+  pub lawful : IsTrue (is_lawful v.root)
+  pub object_below : v.object < 2 ^ 32
+  pub serial_below : v.serial < 2 ^ 64
+  pub commit_below : IfSome v.commit (λ n. n < 2 ^ 28)
+  pub base_below : IfSome v.base (λ n. n < 2 ^ 28)
+  pub count : length v.members ≤ 16
+  pub each : AllByRecursion IsMember v.members
+
+-- what an entry keeps: a live one has a generation, and one that is not live has no secret
+pub record IsSoundEntry (e : EntryValue) : Type 0 where
+  pub named : IsNamed e.first
+  pub generation : IfSome e.first (λ _. 1 ≤ e.generation)
+  pub secret : IfNone e.first (e.secret ≡ zeros 8)
+
+-- an entry with a spelling, in a table whose first blocks are below a limit
+pub record IsEntry (limit : ℕ) (e : EntryValue) : Type 0 where
+  pub sound : IsSoundEntry e
+  pub below : IfSome e.first (λ n. n < limit)
+  pub generation_below : e.generation < 2 ^ 32
+  pub eight : length e.secret ≡ 8
+  pub secret_bytes : IsBytes e.secret
+
+-- no file, and none was ever there
+abbrev pub is_blank : EntryValue → Bool
+is_blank e = is_none e.first

@@ -1,0 +1,6 @@
+pub mod Numbers
+pub mod Values
+pub mod Bounds
+pub mod Spelling
+pub mod TableSpelling
+pub mod NewStore

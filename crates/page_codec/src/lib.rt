@@ -1,0 +1,21 @@
+//! The blocks of a store as bytes: pages, version pages, the table and its parts, each with one spelling of 1,024 bytes.
+#![tactic(auto)]
+
+mod entry;
+mod member;
+mod members;
+mod page;
+mod reference;
+mod version;
+mod why;
+
+pub use entry::TableEntry;
+pub use member::Member;
+pub use members::Members;
+pub use page::{Page, SLOTS};
+pub use reference::Reference;
+pub use version::VersionPage;
+pub use why::{BadPage, Why};
+
+/// A block of a store: 1,024 bytes.
+pub type Block = [u8; 1024];
