@@ -1,10 +1,12 @@
 //! The blocks of a store as bytes: pages, version pages, the table and its parts, each with one spelling of 1,024 bytes.
 #![tactic(auto)]
 
+mod encode;
 mod entry;
 mod member;
 mod members;
 mod page;
+mod put;
 mod reference;
 mod version;
 mod why;
