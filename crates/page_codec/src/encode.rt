@@ -2,8 +2,8 @@
 ghost use Rattle.std.specs.Prelude.{◌≡◌, ℕ, ◌+◌, ◌*◌, ◌^◌, ◌<◌, ◌≤◌, ◌∷◌, [], ◌++◌, take, length, IfSome};
 ghost use Rattle.std.specs.List.{flat_map, AllByRecursion};
 ghost use Rattle.std.specs.Int.{w16, w32};
-ghost use Rattle.page_codec.specs.Numbers.{or_zero, big_endian, zeros};
-ghost use Rattle.page_codec.specs.Bounds.{IsReference, IsMember, IsFrame, IsPage, IsVersion};
+ghost use Rattle.page_codec.specs.Numbers.{IsBytes, or_zero, big_endian, zeros};
+ghost use Rattle.page_codec.specs.Bounds.{IsReference, IsMember, IsSoundPage, IsFrame, IsPage, IsVersion};
 ghost use Rattle.page_codec.specs.Spelling.{reference_bytes, member_bytes, data_bytes, head_bytes, version_middle, page_bytes, version_bytes};
 
 use crate::member::Member;
@@ -12,7 +12,7 @@ use crate::put::{put, put_u16, put_u32, put_u64, put_zeros};
 use crate::reference::Reference;
 use crate::version::VersionPage;
 use crate::Block;
-use afs_base::{BlockNo, PageData};
+use afs_base::BlockNo;
 
 /// The kind of a page below `/`: `P`.
 pub const PAGE: u8 = 0x50;
@@ -83,12 +83,13 @@ fn put_members(block: &mut Block, at: usize, members: &[Member]) -> usize
 }
 
 /// Writes the data in 800 bytes, with zeros behind it, and answers the place behind them.
-fn put_data(block: &mut Block, at: usize, bytes: &PageData) -> usize
-    requires { at + 800 ≤ 1024 }
+fn put_data(block: &mut Block, at: usize, bytes: &[u8]) -> usize
+    requires room { at + 800 ≤ 1024 }
+    requires short { length bytes.now ≤ 800 }
     ensures next { result ≡ at + 800 }
     ensures front { take result block.new ≡ take at block.old ++ data_bytes bytes.now }
+    ensures spelled { IsBytes bytes.now }
 {
-    let bytes = bytes.bytes();
     let next = put(block, at, bytes);
     put_zeros(block, next, 800 - bytes.len())
 }
@@ -98,7 +99,10 @@ fn put_front(block: &mut Block, kind: u8, code: u8, page: &Page) -> usize
     ensures next { result ≡ 70 }
     ensures front { take result block.new
         ≡ head_bytes kind page.now.level code ++ flat_map reference_bytes page.now.refs ++ big_endian w16 (length page.now.bytes) }
-    ensures spelled { IsFrame page.now }
+    ensures sound { IsSoundPage page.now }
+    ensures sixteen { length page.now.refs ≡ 16 }
+    ensures each { AllByRecursion IsReference page.now.refs }
+    ensures fits { length page.now.bytes ≤ 800 }
 {
     let bytes = page.bytes.bytes();
     let next = put(block, 0, &[0xa5, kind, page.level, code]);
@@ -112,8 +116,10 @@ fn put_back(block: &mut Block, at: usize, page: &Page) -> usize
     ensures next { result ≡ at + 805 }
     ensures front { take result block.new
         ≡ take at block.old ++ data_bytes page.now.bytes ++ big_endian w16 page.now.modified ++ zeros 3 }
+    ensures mask { page.now.modified < 2 ^ 16 }
+    ensures spelled { IsBytes page.now.bytes }
 {
-    let next = put_data(block, at, &page.bytes);
+    let next = put_data(block, at, page.bytes.bytes());
     let next = put_u16(block, next, page.modified);
     put_zeros(block, next, 3)
 }

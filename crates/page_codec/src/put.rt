@@ -1,5 +1,5 @@
 //! Writing into a block from left to right: each call says what the block then begins with.
-ghost use Rattle.std.specs.Prelude.{◌≡◌, ℕ, ◌+◌, ◌≤◌, ◌∷◌, [], ◌++◌, take, length};
+ghost use Rattle.std.specs.Prelude.{◌≡◌, ℕ, ◌+◌, ◌^◌, ◌<◌, ◌≤◌, ◌∷◌, [], ◌++◌, take, length};
 ghost use Rattle.std.specs.Int.{w16, w32, w64};
 ghost use Rattle.page_codec.specs.Numbers.{big_endian, zeros};
 
@@ -36,6 +36,7 @@ pub fn put_u16(block: &mut Block, at: usize, number: u16) -> usize
     requires { at + 2 ≤ 1024 }
     ensures next { result ≡ at + 2 }
     ensures front { take result block.new ≡ take at block.old ++ big_endian w16 number }
+    ensures fits { number < 2 ^ 16 }
 {
     put(block, at, &number.to_be_bytes())
 }
