@@ -1,9 +1,10 @@
 -- What the types keep, and which values have a spelling.
-use Rattle.std.specs.Prelude.{◌≡◌, ℕ, ◌<◌, ◌≤◌, ◌^◌, ◌⊎◌, Bool, true, false, Option, List, [], length, is_none, is_some, nat_lt, not, IsTrue, IfSome, IfNone}
+use Rattle.std.specs.Prelude.{◌≡◌, ◌==◌, ℕ, ◌<◌, ◌≤◌, ◌^◌, ◌⊎◌, Bool, true, false, Option, List, [], length, is_none, is_some, nat_lt, not, IsTrue, IfSome, IfNone}
 use Rattle.std.specs.List.{AllByRecursion, list_any, list_all}
 use Rattle.ref_flags.specs.Flagged.{Flagged, is_lawful}
 use Rattle.page_codec.specs.Numbers.{IsBytes, or_zero, zeros}
 use Rattle.page_codec.specs.Values.{ReferenceValue, PageValue, MemberValue, VersionValue, EntryValue, RootValue, TableValue}
+use Rattle.page_codec.specs.Blank.{no_parts, no_entries}
 
 -- a block number, where there is one, is not 0
 abbrev pub IsNamed : Option ℕ → Type 0
@@ -12,6 +13,10 @@ IsNamed block = IfSome block (λ n. 0 < n)
 -- a block number, where there is one, is from 1 to 2^28 - 1
 abbrev pub IsBlockOrNil : Option ℕ → Type 0
 IsBlockOrNil block = IfSome block (λ n. (0 < n) × (n < 2 ^ 28))
+
+-- an entry where a file is, or was
+abbrev pub has_generation : EntryValue → Bool
+has_generation e = not (e.generation == 0)
 
 -- a slot that names a page
 abbrev pub is_used : ReferenceValue → Bool
@@ -84,14 +89,43 @@ pub record IsSoundEntry (e : EntryValue) : Type 0 where
   pub generation : IfSome e.first (λ _. 1 ≤ e.generation)
   pub secret : IfNone e.first (e.secret ≡ zeros 8)
 
--- an entry with a spelling, in a table whose first blocks are below a limit
-pub record IsEntry (limit : ℕ) (e : EntryValue) : Type 0 where
+-- an entry with a spelling
+pub record IsEntry (e : EntryValue) : Type 0 where
   pub sound : IsSoundEntry e
-  pub below : IfSome e.first (λ n. n < limit)
+  pub first_below : IfSome e.first (λ n. n < 2 ^ 28)
   pub generation_below : e.generation < 2 ^ 32
   pub eight : length e.secret ≡ 8
   pub secret_bytes : IsBytes e.secret
 
--- no file, and none was ever there
-abbrev pub is_blank : EntryValue → Bool
-is_blank e = is_none e.first
+-- a first version lies in a block of the store
+abbrev pub IsFirstBelow : ℕ → EntryValue → Type 0
+IsFirstBelow blocks e = IfSome e.first (λ n. n < blocks)
+
+-- a part lies in a block of the store that is not block 0
+abbrev pub IsPartBelow : ℕ → Option ℕ → Type 0
+IsPartBelow blocks part = IfSome part (λ n. (0 < n) × (n < blocks))
+
+-- what block 0 keeps: every block that it names is one of the store's, format 1 has no parts, and format 2 no entries of its own
+pub record IsSoundRoot (r : RootValue) : Type 0 where
+  pub first_format : 1 ≤ r.format
+  pub last_format : r.format ≤ 2
+  pub least : 2 ≤ r.blocks
+  pub most : r.blocks ≤ 65536
+  pub parts_below : AllByRecursion (IsPartBelow r.blocks) r.parts
+  pub first_below : AllByRecursion (IsFirstBelow r.blocks) r.first
+  pub no_parts : r.format ≡ 1 → r.parts ≡ no_parts
+  pub no_first : r.format ≡ 2 → r.first ≡ no_entries 60
+
+-- block 0 with a spelling
+pub record IsRoot (r : RootValue) : Type 0 where
+  pub sound : IsSoundRoot r
+  pub key_below : r.key < 2 ^ 64
+  pub parts_count : length r.parts ≡ 64
+  pub first_count : length r.first ≡ 60
+  pub each : AllByRecursion IsEntry r.first
+
+-- a part with a spelling: at least one of its files is there, or was
+pub record IsPart (entries : List EntryValue) : Type 0 where
+  pub count : length entries ≡ 63
+  pub each : AllByRecursion IsEntry entries
+  pub used : list_any has_generation entries ≡ true

@@ -5,27 +5,12 @@ use Rattle.std.specs.Int.{w32, w64}
 use Rattle.sha2.specs.Sha256.{sha256}
 use Rattle.ref_flags.specs.Flagged.{no_flags}
 use Rattle.page_codec.specs.Numbers.{big_endian, zeros, field}
-use Rattle.page_codec.specs.Values.{ReferenceValue, PageValue, VersionValue, EntryValue, RootValue}
-
--- a slot that names no page
-abbrev pub empty_reference : ReferenceValue
-empty_reference = record { flags = no_flags; block = None }
-
--- sixteen slots that name no page
-unfoldable pub empty_slots : List ReferenceValue
-empty_slots = replicate 16 empty_reference
-
--- a page of some level with no data and no slots in use
-abbrev pub empty_page : ℕ → PageValue
-empty_page level = record { level = level; modified = 0; refs = empty_slots; bytes = [] }
+use Rattle.page_codec.specs.Values.{VersionValue, EntryValue, RootValue}
+use Rattle.page_codec.specs.Blank.{empty_page, no_entry, no_parts}
 
 -- the first version of a file, with nothing in it
 abbrev pub new_version : ℕ → VersionValue
 new_version object = record { root = no_flags; page = empty_page 0; object = object; serial = 1; commit = None; base = None; members = [] }
-
--- an entry where no file ever was
-abbrev pub no_entry : EntryValue
-no_entry = record { first = None; generation = 0; secret = zeros 8 }
 
 -- the secret of a file of a generation: the first eight bytes of the digest of the key, the object and the generation
 unfoldable pub secret_of : ℕ → ℕ → ℕ → List ℕ
@@ -41,10 +26,6 @@ new_entry files key object =
 -- the sixty entries of a new store
 unfoldable pub new_entries : ℕ → ℕ → List EntryValue
 new_entries files key = map (new_entry files key) (range_with_len 1 60)
-
--- no part has a block
-unfoldable pub no_parts : List (Option ℕ)
-no_parts = replicate 64 None
 
 -- block 0 of a new store
 abbrev pub new_root : ℕ → ℕ → ℕ → RootValue

@@ -1,5 +1,5 @@
-ghost use Rattle.std.specs.Prelude.{◌≡◌};
-ghost use Rattle.page_codec.specs.NewStore.{no_entry};
+ghost use Rattle.std.specs.Prelude.{◌≡◌, ◌≤◌, Some};
+ghost use Rattle.page_codec.specs.Blank.{no_entry};
 
 use afs_base::BlockNo;
 use std::marker::Model;
@@ -37,6 +37,19 @@ impl TableEntry {
             first: None,
             generation: 0,
             secret: [0; 8],
+        }
+    }
+
+    /// The entry of a live file: neither its first block nor its generation is 0.
+    pub fn live(first: BlockNo, generation: u32, secret: [u8; 8]) -> Self
+        requires named { 1 ≤ first }
+        requires counted { 1 ≤ generation }
+        ensures { result ≡ record { first = Some first; generation = generation; secret = secret } }
+    {
+        TableEntry {
+            first: Some(first),
+            generation,
+            secret,
         }
     }
 }

@@ -8,6 +8,8 @@ mod members;
 mod page;
 mod put;
 mod reference;
+mod root;
+mod secret;
 mod version;
 mod why;
 
@@ -16,6 +18,8 @@ pub use member::Member;
 pub use members::Members;
 pub use page::{Page, SLOTS};
 pub use reference::Reference;
+pub use root::TableRoot;
+pub use secret::secret_of;
 pub use version::VersionPage;
 pub use why::{BadPage, Why};
 

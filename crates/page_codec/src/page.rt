@@ -1,5 +1,5 @@
 ghost use Rattle.std.specs.Prelude.{◌≡◌, ◌≤◌};
-ghost use Rattle.page_codec.specs.NewStore.{empty_slots, empty_page};
+ghost use Rattle.page_codec.specs.Blank.{empty_slots, empty_page};
 
 use crate::reference::Reference;
 use afs_base::PageData;
@@ -32,7 +32,7 @@ impl Model for Page {
 }
 
 /// Sixteen empty slots.
-#[tactic(auto, unfolding(crate::specs::NewStore::empty_slots))]
+#[tactic(auto, unfolding(crate::specs::Blank::empty_slots))]
 fn no_slots() -> [Reference; SLOTS]
     ensures { result ≡ empty_slots }
 {
@@ -41,7 +41,7 @@ fn no_slots() -> [Reference; SLOTS]
 
 impl Page {
     /// A page with no data and no slots in use; its level is 0 to 7.
-    #[tactic(auto, unfolding(crate::specs::NewStore::empty_slots))]
+    #[tactic(auto, unfolding(crate::specs::Blank::empty_slots))]
     pub fn empty(level: u8) -> Self
         requires { level ≤ 7 }
         ensures { result ≡ empty_page level }

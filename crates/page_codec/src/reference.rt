@@ -1,5 +1,5 @@
 ghost use Rattle.std.specs.Prelude.{◌≡◌};
-ghost use Rattle.page_codec.specs.NewStore.{empty_reference};
+ghost use Rattle.page_codec.specs.Blank.{empty_reference};
 
 use afs_base::BlockNo;
 use ref_flags::Flags;
