@@ -1,1 +1,3 @@
 pub mod NewStoreLaws
+pub mod TableLaws
+pub mod Blocks

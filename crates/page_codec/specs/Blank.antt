@@ -27,4 +27,3 @@ no_entries count = replicate count no_entry
 -- no part has a block
 unfoldable pub no_parts : List (Option ℕ)
 no_parts = replicate 64 None
-

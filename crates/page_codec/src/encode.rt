@@ -6,12 +6,12 @@ ghost use Rattle.page_codec.specs.Numbers.{IsBytes, or_zero, big_endian, zeros};
 ghost use Rattle.page_codec.specs.Bounds.{IsReference, IsMember, IsSoundPage, IsFrame, IsPage, IsVersion};
 ghost use Rattle.page_codec.specs.Spelling.{reference_bytes, member_bytes, data_bytes, head_bytes, version_middle, page_bytes, version_bytes};
 
+use crate::Block;
 use crate::member::Member;
 use crate::page::Page;
 use crate::put::{put, put_u16, put_u32, put_u64, put_zeros};
 use crate::reference::Reference;
 use crate::version::VersionPage;
-use crate::Block;
 use afs_base::BlockNo;
 
 /// The kind of a page below `/`: `P`.

@@ -3,6 +3,7 @@
 
 mod encode;
 mod entry;
+mod fresh;
 mod member;
 mod members;
 mod page;
@@ -10,10 +11,13 @@ mod put;
 mod reference;
 mod root;
 mod secret;
+mod table_bytes;
 mod version;
 mod why;
 
+pub use encode::{encode_page, encode_version};
 pub use entry::TableEntry;
+pub use fresh::fresh_image;
 pub use member::Member;
 pub use members::Members;
 pub use page::{Page, SLOTS};

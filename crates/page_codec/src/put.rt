@@ -1,7 +1,7 @@
 //! Writing into a block from left to right: each call says what the block then begins with.
 ghost use Rattle.std.specs.Prelude.{◌≡◌, ℕ, ◌+◌, ◌^◌, ◌<◌, ◌≤◌, ◌∷◌, [], ◌++◌, take, length};
 ghost use Rattle.std.specs.Int.{w16, w32, w64};
-ghost use Rattle.page_codec.specs.Numbers.{big_endian, zeros};
+ghost use Rattle.page_codec.specs.Numbers.{IsBytes, big_endian, zeros};
 
 use crate::Block;
 
@@ -10,6 +10,7 @@ pub fn put(block: &mut Block, at: usize, bytes: &[u8]) -> usize
     requires { at + length bytes.now ≤ 1024 }
     ensures next { result ≡ at + length bytes.now }
     ensures front { take result block.new ≡ take at block.old ++ bytes.now }
+    ensures fits { IsBytes bytes.now }
 {
     let end = at + bytes.len();
     let tail = &mut block[at..end];

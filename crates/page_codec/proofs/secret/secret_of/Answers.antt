@@ -14,5 +14,5 @@ unfolding secret_of big_endian
 returns c =
     let fed = c.update-3.ensures _ (c.update-2.ensures _ (c.update.ensures [] c.new-hasher.ensures)) in
     let message = joined c.as_slice.result.now c.as_slice-2.result.now c.as_slice-3.result.now (to_be_bytes w64 c.args.key) (to_be_bytes w32 c.args.object) (to_be_bytes w32 c.args.generation)
-        (c.as_slice.ensures ∙ c.to_be_bytes.ensures) (c.as_slice-2.ensures ∙ c.to_be_bytes-2.ensures) (c.as_slice-3.ensures ∙ c.to_be_bytes-3.ensures) in
+    (c.as_slice.ensures ∙ c.to_be_bytes.ensures) (c.as_slice-2.ensures ∙ c.to_be_bytes-2.ensures) (c.as_slice-3.ensures ∙ c.to_be_bytes-3.ensures) in
     c.copy_from_slice.ensures.after ∙ ap (take 8) (c.finalize-digest.ensures _ fed ∙ ap sha256 message)
