@@ -5,3 +5,5 @@ pub mod Bounds
 pub mod Spelling
 pub mod TableSpelling
 pub mod NewStore
+pub mod Reading
+pub mod Causes

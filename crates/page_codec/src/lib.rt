@@ -8,6 +8,7 @@ mod member;
 mod members;
 mod page;
 mod put;
+mod read;
 mod reference;
 mod root;
 mod secret;
