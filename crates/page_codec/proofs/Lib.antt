@@ -1,3 +1,5 @@
 pub mod NewStoreLaws
 pub mod TableLaws
 pub mod Blocks
+pub mod FieldLaws
+pub mod PieceLaws

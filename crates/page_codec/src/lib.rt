@@ -12,6 +12,7 @@ mod read;
 mod reference;
 mod root;
 mod secret;
+mod slots;
 mod table_bytes;
 mod version;
 mod why;

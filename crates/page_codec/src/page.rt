@@ -33,7 +33,7 @@ impl Model for Page {
 
 /// Sixteen empty slots.
 #[tactic(auto, unfolding(crate::specs::Blank::empty_slots))]
-fn no_slots() -> [Reference; SLOTS]
+pub fn no_slots() -> [Reference; SLOTS]
     ensures { result ≡ empty_slots }
 {
     [Reference::empty(); SLOTS]
