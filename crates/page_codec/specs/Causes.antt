@@ -32,16 +32,16 @@ abbrev pub is_dangling : ℕ → Bool
 is_dangling n = n % 2 ^ 28 == 0 && not (n / 2 ^ 28 == 0)
 
 -- a number that is not 0
-abbrev pub is_used : ℕ → Bool
-is_used n = not (n == 0)
+abbrev pub is_nonzero : ℕ → Bool
+is_nonzero n = not (n == 0)
 
 -- a slot has a code and no block, or a page of level 7 has a slot in use
 abbrev pub has_bad_reference : ℕ → List ℕ → Bool
-has_bad_reference level numbers = list_any is_dangling numbers || (level == 7 && list_any is_used numbers)
+has_bad_reference level numbers = list_any is_dangling numbers || (level == 7 && list_any is_nonzero numbers)
 
 -- a byte of a range is not 0
 abbrev pub has_other : ℕ → ℕ → List ℕ → Bool
-has_other from to b = list_any is_used (slice_range b from to)
+has_other from to b = list_any is_nonzero (slice_range b from to)
 
 -- a byte behind the data, or one of the last three, is not 0
 abbrev pub has_other_past : List ℕ → Bool

@@ -7,3 +7,4 @@ pub mod TableSpelling
 pub mod NewStore
 pub mod Reading
 pub mod Causes
+pub mod Facts

@@ -1,6 +1,7 @@
 //! The blocks of a store as bytes: pages, version pages, the table and its parts, each with one spelling of 1,024 bytes.
 #![tactic(auto)]
 
+mod decode;
 mod encode;
 mod entry;
 mod fresh;
@@ -17,6 +18,7 @@ mod table_bytes;
 mod version;
 mod why;
 
+pub use decode::{decode_page, decode_version};
 pub use encode::{encode_page, encode_version};
 pub use entry::TableEntry;
 pub use fresh::fresh_image;

@@ -3,7 +3,7 @@ ghost use Rattle.std.specs.Prelude.{◌≡◌, ℕ, ◌+◌, ◌^◌, ◌<◌, �
 ghost use Rattle.std.specs.List.{list_any};
 ghost use Rattle.std.specs.Int.{w16, w32, w64};
 ghost use Rattle.page_codec.specs.Numbers.{number_at};
-ghost use Rattle.page_codec.specs.Causes.{is_used, has_other};
+ghost use Rattle.page_codec.specs.Causes.{is_nonzero, has_other};
 
 use crate::Block;
 
@@ -44,7 +44,7 @@ pub fn u64_at(bytes: &[u8], at: usize) -> u64
 
 /// Whether a byte is not 0.
 pub fn is_any_used(bytes: &[u8]) -> bool
-    ensures { result ≡ list_any is_used bytes.now }
+    ensures { result ≡ list_any is_nonzero bytes.now }
 {
     bytes.iter().any(|byte| *byte != 0)
 }

@@ -4,7 +4,7 @@ ghost use Rattle.std.specs.List.{list_any};
 ghost use Rattle.std.specs.Int.{w32};
 ghost use Rattle.page_codec.specs.Numbers.{number_at, pieces, or_none};
 ghost use Rattle.page_codec.specs.Reading.{slots, reference};
-ghost use Rattle.page_codec.specs.Causes.{is_no_code, is_dangling, is_used, has_bad_reference};
+ghost use Rattle.page_codec.specs.Causes.{is_no_code, is_dangling, is_nonzero, has_bad_reference};
 
 use crate::Block;
 use crate::page::{SLOTS, no_slots};
@@ -52,7 +52,7 @@ pub fn has_dangling(numbers: &[u32]) -> bool
 
 /// Whether a slot is in use.
 fn is_any_in_use(numbers: &[u32]) -> bool
-    ensures { result ≡ list_any is_used numbers.now }
+    ensures { result ≡ list_any is_nonzero numbers.now }
 {
     numbers.iter().any(|number| *number != 0)
 }
