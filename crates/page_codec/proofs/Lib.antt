@@ -5,3 +5,6 @@ pub mod FieldLaws
 pub mod PieceLaws
 pub mod CauseLaws
 pub mod FactLaws
+pub mod ByteLaws
+pub mod SlotLaws
+pub mod FrameLaws

@@ -192,6 +192,17 @@ fn version_at(block: &Block, numbers: &[u32; SLOTS]) -> VersionPage
     }
 }
 
+/// The page below `/` in a block, or the first cause.
+fn read_page(block: &Block) -> Result<Page, BadPage>
+    ensures { Reads result (page_of block.now) }
+{
+    let numbers = slots_of(block);
+    match page_cause(block, &numbers) {
+        Some(why) => Err(BadPage { why }),
+        None => Ok(frame_at(block, &numbers)),
+    }
+}
+
 /// The page below `/` in a block; an error, with the first cause, exactly where the block is the spelling of none.
 pub fn decode_page(block: &Block) -> Result<Page, BadPage>
     // What is read is spelled so.
@@ -201,10 +212,17 @@ pub fn decode_page(block: &Block) -> Result<Page, BadPage>
     // Which cause it is.
     ensures exact { Reads result (page_of block.now) }
 {
+    read_page(block)
+}
+
+/// The version page in a block, or the first cause.
+fn read_version(block: &Block) -> Result<VersionPage, BadPage>
+    ensures { Reads result (version_of block.now) }
+{
     let numbers = slots_of(block);
-    match page_cause(block, &numbers) {
+    match version_cause(block, &numbers) {
         Some(why) => Err(BadPage { why }),
-        None => Ok(frame_at(block, &numbers)),
+        None => Ok(version_at(block, &numbers)),
     }
 }
 
@@ -217,9 +235,5 @@ pub fn decode_version(block: &Block) -> Result<VersionPage, BadPage>
     // Which cause it is.
     ensures exact { Reads result (version_of block.now) }
 {
-    let numbers = slots_of(block);
-    match version_cause(block, &numbers) {
-        Some(why) => Err(BadPage { why }),
-        None => Ok(version_at(block, &numbers)),
-    }
+    read_version(block)
 }
