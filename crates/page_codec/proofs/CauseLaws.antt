@@ -1,5 +1,6 @@
 -- Where no cause applies, every test is false.
-use Rattle.std.proofs.Common.{◌≡◌, Bool, true, false, cond, List, [], ◌∷◌, refl, ◌||◌}
+use Rattle.std.proofs.Common.{◌≡◌, ℕ, ◌≤◌, ◌<◌, Bool, true, false, not, cond, eqb, ltb, leb, List, [], ◌∷◌, refl, ap, ◌∙◌, ◌||◌, ◌&&◌, arith}
+use Rattle.std.proofs.lemmas.Bool.{ne_eqb, eqb-false, le-ltb, leb-true}
 use Rattle.std.specs.Prelude.{Option, Some, None}
 use Rattle.page_codec.specs.declared.why.Why.{Why}
 use Rattle.page_codec.specs.Causes.{Cause, first_cause}
@@ -33,3 +34,32 @@ neither false b e = (refl, e)
 pub both_false : (a b : Bool) → a ≡ false → b ≡ false → (a || b) ≡ false
 both_false true b e f = absurd cc
 both_false false b e f = f
+
+eqb_same : (n : ℕ) → eqb n n ≡ true
+eqb_same n = by (eqb n n) refl
+  where
+    by : (b : Bool) → eqb n n ≡ b → eqb n n ≡ true
+    by true e = e
+    by false e = absurd (eqb-false n n e refl)
+
+-- tests that numbers pass
+pub passes_same : (m n : ℕ) → m ≡ n → not (eqb m n) ≡ false
+passes_same m n e = ap (λ (k : ℕ). not (eqb k n)) e ∙ ap not (eqb_same n)
+
+pub passes_positive : (n : ℕ) → 1 ≤ n → eqb n 0 ≡ false
+passes_positive n h = ne_eqb n 0 (λ e. omega arith)
+
+pub passes_most : (n m : ℕ) → m ≤ n → ltb n m ≡ false
+passes_most n m h = le-ltb _ _ h
+
+pub passes_below : (n m : ℕ) → m < n → leb n m ≡ false
+passes_below n m h = by (leb n m) refl
+  where
+    by : (b : Bool) → leb n m ≡ b → leb n m ≡ false
+    by true e = let le : n ≤ m = leb-true n m e in absurd (omega arith)
+    by false e = e
+
+-- a test that is tried in one case alone
+pub passes_if : (a b : Bool) → (a ≡ true → b ≡ false) → (a && b) ≡ false
+passes_if true b h = h refl
+passes_if false b h = refl

@@ -157,3 +157,101 @@ pub record IsFramed (b : List ℕ) (kind code : ℕ) (p : PageValue) (middle : L
   pub page_data : field 219 800 b ≡ data_bytes p.bytes
   pub mask : field 1019 2 b ≡ big_endian w16 p.modified
   pub last : field 1021 3 b ≡ zeros 3
+
+length-data : (bytes : List ℕ) → length bytes ≤ 800 → length (data_bytes bytes) ≡ 800
+length-data bytes h = omega (arith, length-append bytes (zeros (800 - length bytes)), length-zeros (800 - length bytes))
+
+length-slots : (p : PageValue) → IsFrame p → length (flat_map reference_bytes p.refs) ≡ 64
+length-slots p h =
+    let sixteen : length p.refs ≡ 16 = h.sixteen in
+    length-flat_map-spell reference_bytes 4 (λ r. length-big_endian w32 (2 ^ 32) wide32 (reference_number r)) p.refs ∙ omega (arith, sixteen)
+
+pub IsFramed-frame_bytes : (b : List ℕ) (kind code : ℕ) (p : PageValue) (middle : List ℕ) → IsFrame p → length middle ≡ 149 → b ≡ frame_bytes kind code p middle → IsFramed b kind code p middle
+unfolding frame_bytes
+IsFramed-frame_bytes b kind code p middle h size e =
+    let cut = ap (fields 0 (4 ∷ 64 ∷ 2 ∷ 149 ∷ 800 ∷ 2 ∷ 3 ∷ [])) e
+        ∙ fields_cut [] (head_bytes kind p.level code) (flat_map reference_bytes p.refs) (big_endian w16 (length p.bytes)) middle (data_bytes p.bytes) (big_endian w16 p.modified) (zeros 3)
+            0 4 64 2 149 800 2 3 refl refl (length-slots p h) (length-big_endian w16 (2 ^ 16) wide16 (length p.bytes)) size (length-data p.bytes h.fits)
+            (length-big_endian w16 (2 ^ 16) wide16 p.modified) (length-zeros 3) in
+    let are = are_seven (field 0 4 b) (field 4 64 b) (field 68 2 b) (field 70 149 b) (field 219 800 b) (field 1019 2 b) (field 1021 3 b)
+        (head_bytes kind p.level code) (flat_map reference_bytes p.refs) (big_endian w16 (length p.bytes)) middle (data_bytes p.bytes) (big_endian w16 p.modified) (zeros 3) cut in
+    record { head = are.e1; slots = are.e2; long = are.e3; inner = are.e4; page_data = are.e5; mask = are.e6; last = are.e7 }
+
+-- a frame has 1,024 bytes
+pub length-frame_bytes : (kind code : ℕ) (p : PageValue) (middle : List ℕ) → IsFrame p → length middle ≡ 149 → length (frame_bytes kind code p middle) ≡ 1024
+unfolding frame_bytes
+length-frame_bytes kind code p middle h size =
+    sums (head_bytes kind p.level code) (flat_map reference_bytes p.refs) (big_endian w16 (length p.bytes)) middle (data_bytes p.bytes) (big_endian w16 p.modified) (zeros 3)
+        refl (length-slots p h) (length-big_endian w16 (2 ^ 16) wide16 (length p.bytes)) size (length-data p.bytes h.fits) (length-big_endian w16 (2 ^ 16) wide16 p.modified) (length-zeros 3)
+  where
+    sums : (a b c d e f g : List ℕ) → length a ≡ 4 → length b ≡ 64 → length c ≡ 2 → length d ≡ 149 → length e ≡ 800 → length f ≡ 2 → length g ≡ 3
+        → length (a ++ b ++ c ++ d ++ e ++ f ++ g) ≡ 1024
+    sums a b c d e f g ha hb hc hd he hf hg = simp length-append (omega arith)
+
+-- the page that is read is the page that was spelled, and no cause of a frame applies
+pub record IsFrameRead (b : List ℕ) (kind code : ℕ) (p : PageValue) : Type 0 where
+  pub value : frame_value b ≡ p
+  pub facts : FrameFacts b
+  pub kind_is : slice_index b 1 ≡ kind
+  pub level_is : slice_index b 2 ≡ p.level
+  pub code_is : slice_index b 3 ≡ code
+
+slots_again : (b : List ℕ) (rs : List ReferenceValue) → AllByRecursion IsReference rs → length rs ≡ 16 → field 4 64 b ≡ flat_map reference_bytes rs → slots b ≡ map reference_number rs
+unfolding slots
+slots_again b rs each sixteen e =
+    let ns = map reference_number rs in
+    let size : length ns ≡ 16 = length-map rs reference_number ∙ sixteen in
+    let bytes : field 4 64 b ≡ flat_map (big_endian w32) ns ++ [] = e ∙ slots_bytes rs ∙ sym (append-nil (flat_map (big_endian w32) ns)) in
+    ap (λ (x : List ℕ). map (number_at w32 0) (pieces 4 16 x)) bytes
+    ∙ ap (λ (n : ℕ). map (number_at w32 0) (pieces 4 n (flat_map (big_endian w32) ns ++ []))) (sym size)
+    ∙ pieces_again 4 (number_at w32 0) (big_endian w32) (λ n. n < 2 ^ 32) numbers_law ns [] (slots_below ns (numbers_are_slots rs each))
+
+data_again : (b bytes : List ℕ) → length bytes ≤ 800 → field 219 800 b ≡ data_bytes bytes → field 219 (length bytes) b ≡ bytes
+data_again b bytes short e =
+    sym (take-take (length bytes) 800 (drop 219 b) short) ∙ ap (take (length bytes)) e ∙ take_at bytes (zeros (800 - length bytes)) (length bytes) refl
+
+past_again : (b bytes : List ℕ) → length bytes ≤ 800 → field 219 800 b ≡ data_bytes bytes → field (219 + length bytes) (800 - length bytes) b ≡ zeros (800 - length bytes)
+past_again b bytes short e =
+    let n = length bytes in
+    sym (field-field n (800 - n) 219 800 (219 + n) b refl (omega (arith, short)))
+    ∙ ap (λ (x : List ℕ). take (800 - n) (drop n x)) e
+    ∙ ap (take (800 - n)) (drop_at bytes (zeros (800 - n)) n refl)
+    ∙ take_all (800 - n) (zeros (800 - n)) (omega (arith, length-zeros (800 - n)))
+
+same_page : (a b c d : ℕ) (rs ss : List ReferenceValue) (x y : List ℕ) → a ≡ b → c ≡ d → rs ≡ ss → x ≡ y
+    → (let p : PageValue = record { level = a; modified = c; refs = rs; bytes = x } in p) ≡ record { level = b; modified = d; refs = ss; bytes = y }
+same_page a b c d rs ss x y e f g h = cc
+
+pub IsFrameRead-framed : (b : List ℕ) (kind code : ℕ) (p : PageValue) (middle : List ℕ) → IsFrame p → IsFramed b kind code p middle → IsFrameRead b kind code p
+unfolding frame_value
+IsFrameRead-framed b kind code p middle h framed =
+    let n = length p.bytes in
+    let byte : (i : ℕ) → i < 4 → slice_index b i ≡ slice_index (head_bytes kind p.level code) i = λ i lt. byte_in_field b 0 4 i i (omega arith) lt ∙ ap (λ (x : List ℕ). slice_index x i) framed.head in
+    let level : slice_index b 2 ≡ p.level = byte 2 (omega arith) in
+    let short : n ≤ 800 = h.fits in
+    let size : data_len b ≡ n = number_at-big_endian w16 (2 ^ 16) wide16 68 n b (omega (arith, short)) framed.long in
+    let numbers : slots b ≡ map reference_number p.refs = slots_again b p.refs h.each h.sixteen framed.slots in
+    let are = numbers_are_slots p.refs h.each in
+    let mask : number_at w16 1019 b ≡ p.modified = number_at-big_endian w16 (2 ^ 16) wide16 1019 p.modified b h.mask framed.mask in
+    let refs : map reference (slots b) ≡ p.refs = ap (map reference) numbers ∙ numbers_again p.refs h.each in
+    let bytes : field 219 (data_len b) b ≡ p.bytes = ap (λ (k : ℕ). field 219 k b) size ∙ data_again b p.bytes short framed.page_data in
+    let behind : has_other (219 + data_len b) 1019 b ≡ false =
+        ap (λ (k : ℕ). has_other (219 + k) 1019 b) size
+        ∙ ap (λ (k : ℕ). list_any is_nonzero (take k (drop (219 + n) b))) (let k : 1019 - (219 + n) ≡ 800 - n = omega arith in k)
+        ∙ ap (list_any is_nonzero) (past_again b p.bytes short framed.page_data) ∙ zeros_pass (800 - n) in
+    let end : has_other 1021 1024 b ≡ false = ap (list_any is_nonzero) framed.last ∙ zeros_pass 3 in
+    record {
+      value = same_page (slice_index b 2) p.level (number_at w16 1019 b) p.modified (map reference (slots b)) p.refs (field 219 (data_len b) b) p.bytes level mask refs bytes;
+      facts = record {
+        gate = byte 0 (omega arith);
+        depth = let deep : p.level ≤ 7 = h.sound.depth in omega (arith, level, deep);
+        coded = ap (list_any is_no_code) numbers ∙ slots_pass_codes (map reference_number p.refs) are;
+        named = ap (list_any is_dangling) numbers ∙ slots_pass_names (map reference_number p.refs) are;
+        leaf = λ seven. ap (list_any is_nonzero) numbers ∙ numbers_unused p.refs h.each (h.sound.leaf (sym level ∙ seven));
+        short = omega (arith, size, short);
+        past = both_false (has_other (219 + data_len b) 1019 b) (has_other 1021 1024 b) behind end;
+      };
+      kind_is = byte 1 (omega arith);
+      level_is = level;
+      code_is = byte 3 (omega arith);
+    }

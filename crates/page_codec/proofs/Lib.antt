@@ -8,3 +8,4 @@ pub mod FactLaws
 pub mod ByteLaws
 pub mod SlotLaws
 pub mod FrameLaws
+pub mod PageLaws
