@@ -118,7 +118,6 @@ field-split at m n bytes =
     let back : drop m (take (m + n) all) ≡ field (at + m) n bytes = drop-take m n all ∙ ap (take n) (drop-drop m at bytes) in
     sym (take-append-drop m (take (m + n) all)) ∙ cc
 
-
 -- the fields of these widths from a place on
 abbrev pub fields : ℕ → List ℕ → List ℕ → List (List ℕ)
 fields at [] bytes = []
@@ -146,7 +145,7 @@ fields-concat (f ∷ fs) (w ∷ ws) front at e h =
     let there : field at w (front ++ (f ++ concat fs)) ≡ f = ap (take w) (drop_at front (f ++ concat fs) at e) ∙ take_at f (concat fs) w h.0 in
     let longer : length (front ++ f) ≡ at + w = omega (arith, length-append front f, e, h.0) in
     let rest : fields (at + w) ws (front ++ (f ++ concat fs)) ≡ fs =
-        ap (fields (at + w) ws) (sym (append_assoc front f (concat fs))) ∙ fields-concat fs ws (front ++ f) (at + w) longer h.1 in
+    ap (fields (at + w) ws) (sym (append_assoc front f (concat fs))) ∙ fields-concat fs ws (front ++ f) (at + w) longer h.1 in
     cc
 
 -- seven fields, joined from the left

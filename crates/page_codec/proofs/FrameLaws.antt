@@ -109,8 +109,8 @@ data_read b block facts =
     let size : length (field 219 n b) ≡ n = length-field 219 n b (omega (arith, block.size, facts.short)) in
     let split : n + (800 - n) ≡ 800 = omega (arith, facts.short) in
     let rest : field (219 + n) (800 - n) b ≡ zeros (800 - n) =
-        zeros_field (219 + n) (800 - n) b (omega (arith, block.size, facts.short))
-            (ap (λ (k : ℕ). list_any is_nonzero (take k (drop (219 + n) b))) (let k : 800 - n ≡ 1019 - (219 + n) = omega arith in k) ∙ (neither (has_other (219 + n) 1019 b) (has_other 1021 1024 b) facts.past).0) in
+    zeros_field (219 + n) (800 - n) b (omega (arith, block.size, facts.short))
+    (ap (λ (k : ℕ). list_any is_nonzero (take k (drop (219 + n) b))) (let k : 800 - n ≡ 1019 - (219 + n) = omega arith in k) ∙ (neither (has_other (219 + n) 1019 b) (has_other 1021 1024 b) facts.past).0) in
     ap (λ (k : ℕ). field 219 k b) (sym split) ∙ field-split 219 n (800 - n) b ∙ ap (λ (xs : List ℕ). field 219 n b ++ xs) rest
     ∙ ap (λ (k : ℕ). field 219 n b ++ zeros (800 - k)) (sym size)
 
@@ -121,17 +121,17 @@ frame_read b block facts =
     let n = data_len b in
     let size : length (field 219 n b) ≡ n = length-field 219 n b (omega (arith, block.size, facts.short)) in
     let head : field 0 4 b ≡ head_bytes (slice_index b 1) (slice_index b 2) (slice_index b 3) =
-        four_bytes b (omega (arith, block.size)) ∙ ap (λ (g : ℕ). g ∷ slice_index b 1 ∷ slice_index b 2 ∷ slice_index b 3 ∷ []) facts.gate in
+    four_bytes b (omega (arith, block.size)) ∙ ap (λ (g : ℕ). g ∷ slice_index b 1 ∷ slice_index b 2 ∷ slice_index b 3 ∷ []) facts.gate in
     let long : field 68 2 b ≡ big_endian w16 (length (field 219 n b)) =
-        sym (big_endian-number_at w16 (2 ^ 16) wide16 68 b block.fits (omega (arith, block.size))) ∙ ap (big_endian w16) (sym size) in
+    sym (big_endian-number_at w16 (2 ^ 16) wide16 68 b block.fits (omega (arith, block.size))) ∙ ap (big_endian w16) (sym size) in
     let mask : field 1019 2 b ≡ big_endian w16 (number_at w16 1019 b) = sym (big_endian-number_at w16 (2 ^ 16) wide16 1019 b block.fits (omega (arith, block.size))) in
     let last : field 1021 3 b ≡ zeros 3 = zeros_field 1021 3 b (omega (arith, block.size)) (neither (has_other (219 + n) 1019 b) (has_other 1021 1024 b) facts.past).1 in
     let whole : b ≡ field 0 1024 b = sym (take_all 1024 b (omega (arith, block.size))) in
     whole ∙ sym (concat-fields 0 (4 ∷ 64 ∷ 2 ∷ 149 ∷ 800 ∷ 2 ∷ 3 ∷ []) b)
     ∙ fields_join (field 0 4 b) (field 4 64 b) (field 68 2 b) (field 70 149 b) (field 219 800 b) (field 1019 2 b) (field 1021 3 b)
-        (head_bytes (slice_index b 1) (slice_index b 2) (slice_index b 3)) (flat_map reference_bytes (map reference (slots b))) (big_endian w16 (length (field 219 n b)))
-        (field 70 149 b) (data_bytes (field 219 n b)) (big_endian w16 (number_at w16 1019 b)) (zeros 3)
-        (record { e1 = head; e2 = sym (slots_read b block facts).spelled; e3 = long; e4 = refl; e5 = data_read b block facts; e6 = mask; e7 = last })
+    (head_bytes (slice_index b 1) (slice_index b 2) (slice_index b 3)) (flat_map reference_bytes (map reference (slots b))) (big_endian w16 (length (field 219 n b)))
+    (field 70 149 b) (data_bytes (field 219 n b)) (big_endian w16 (number_at w16 1019 b)) (zeros 3)
+    (record { e1 = head; e2 = sym (slots_read b block facts).spelled; e3 = long; e4 = refl; e5 = data_read b block facts; e6 = mask; e7 = last })
 
 pub IsFrame-frame_value : (b : List ℕ) → IsBlock b → FrameFacts b → IsFrame (frame_value b)
 unfolding frame_value
@@ -170,11 +170,11 @@ pub IsFramed-frame_bytes : (b : List ℕ) (kind code : ℕ) (p : PageValue) (mid
 unfolding frame_bytes
 IsFramed-frame_bytes b kind code p middle h size e =
     let cut = ap (fields 0 (4 ∷ 64 ∷ 2 ∷ 149 ∷ 800 ∷ 2 ∷ 3 ∷ [])) e
-        ∙ fields_cut [] (head_bytes kind p.level code) (flat_map reference_bytes p.refs) (big_endian w16 (length p.bytes)) middle (data_bytes p.bytes) (big_endian w16 p.modified) (zeros 3)
-            0 4 64 2 149 800 2 3 refl refl (length-slots p h) (length-big_endian w16 (2 ^ 16) wide16 (length p.bytes)) size (length-data p.bytes h.fits)
-            (length-big_endian w16 (2 ^ 16) wide16 p.modified) (length-zeros 3) in
+    ∙ fields_cut [] (head_bytes kind p.level code) (flat_map reference_bytes p.refs) (big_endian w16 (length p.bytes)) middle (data_bytes p.bytes) (big_endian w16 p.modified) (zeros 3)
+    0 4 64 2 149 800 2 3 refl refl (length-slots p h) (length-big_endian w16 (2 ^ 16) wide16 (length p.bytes)) size (length-data p.bytes h.fits)
+    (length-big_endian w16 (2 ^ 16) wide16 p.modified) (length-zeros 3) in
     let are = are_seven (field 0 4 b) (field 4 64 b) (field 68 2 b) (field 70 149 b) (field 219 800 b) (field 1019 2 b) (field 1021 3 b)
-        (head_bytes kind p.level code) (flat_map reference_bytes p.refs) (big_endian w16 (length p.bytes)) middle (data_bytes p.bytes) (big_endian w16 p.modified) (zeros 3) cut in
+    (head_bytes kind p.level code) (flat_map reference_bytes p.refs) (big_endian w16 (length p.bytes)) middle (data_bytes p.bytes) (big_endian w16 p.modified) (zeros 3) cut in
     record { head = are.e1; slots = are.e2; long = are.e3; inner = are.e4; page_data = are.e5; mask = are.e6; last = are.e7 }
 
 -- a frame has 1,024 bytes
@@ -182,7 +182,7 @@ pub length-frame_bytes : (kind code : ℕ) (p : PageValue) (middle : List ℕ) �
 unfolding frame_bytes
 length-frame_bytes kind code p middle h size =
     sums (head_bytes kind p.level code) (flat_map reference_bytes p.refs) (big_endian w16 (length p.bytes)) middle (data_bytes p.bytes) (big_endian w16 p.modified) (zeros 3)
-        refl (length-slots p h) (length-big_endian w16 (2 ^ 16) wide16 (length p.bytes)) size (length-data p.bytes h.fits) (length-big_endian w16 (2 ^ 16) wide16 p.modified) (length-zeros 3)
+    refl (length-slots p h) (length-big_endian w16 (2 ^ 16) wide16 (length p.bytes)) size (length-data p.bytes h.fits) (length-big_endian w16 (2 ^ 16) wide16 p.modified) (length-zeros 3)
   where
     sums : (a b c d e f g : List ℕ) → length a ≡ 4 → length b ≡ 64 → length c ≡ 2 → length d ≡ 149 → length e ≡ 800 → length f ≡ 2 → length g ≡ 3
         → length (a ++ b ++ c ++ d ++ e ++ f ++ g) ≡ 1024
@@ -236,9 +236,9 @@ IsFrameRead-framed b kind code p middle h framed =
     let refs : map reference (slots b) ≡ p.refs = ap (map reference) numbers ∙ numbers_again p.refs h.each in
     let bytes : field 219 (data_len b) b ≡ p.bytes = ap (λ (k : ℕ). field 219 k b) size ∙ data_again b p.bytes short framed.page_data in
     let behind : has_other (219 + data_len b) 1019 b ≡ false =
-        ap (λ (k : ℕ). has_other (219 + k) 1019 b) size
-        ∙ ap (λ (k : ℕ). list_any is_nonzero (take k (drop (219 + n) b))) (let k : 1019 - (219 + n) ≡ 800 - n = omega arith in k)
-        ∙ ap (list_any is_nonzero) (past_again b p.bytes short framed.page_data) ∙ zeros_pass (800 - n) in
+    ap (λ (k : ℕ). has_other (219 + k) 1019 b) size
+    ∙ ap (λ (k : ℕ). list_any is_nonzero (take k (drop (219 + n) b))) (let k : 1019 - (219 + n) ≡ 800 - n = omega arith in k)
+    ∙ ap (list_any is_nonzero) (past_again b p.bytes short framed.page_data) ∙ zeros_pass (800 - n) in
     let end : has_other 1021 1024 b ≡ false = ap (list_any is_nonzero) framed.last ∙ zeros_pass 3 in
     record {
       value = same_page (slice_index b 2) p.level (number_at w16 1019 b) p.modified (map reference (slots b)) p.refs (field 219 (data_len b) b) p.bytes level mask refs bytes;

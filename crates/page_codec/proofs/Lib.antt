@@ -9,3 +9,5 @@ pub mod ByteLaws
 pub mod SlotLaws
 pub mod FrameLaws
 pub mod PageLaws
+pub mod MemberLaws
+pub mod VersionLaws

@@ -24,10 +24,10 @@ page_causes-none b facts =
     let level = both_false (eqb (slice_index b 2) 0) (ltb 7 (slice_index b 2)) (passes_positive (slice_index b 2) facts.below) (passes_most 7 (slice_index b 2) facts.frame.depth) in
     let code = both_false (not (eqb (slice_index b 3) 0)) (list_any is_no_code (slots b)) (passes_same (slice_index b 3) 0 facts.plain) facts.frame.coded in
     let slot = both_false (list_any is_dangling (slots b)) (eqb (slice_index b 2) 7 && list_any is_nonzero (slots b)) facts.frame.named
-        (passes_if (eqb (slice_index b 2) 7) (list_any is_nonzero (slots b)) (λ seven. facts.frame.leaf (eqb-true (slice_index b 2) 7 seven))) in
+    (passes_if (eqb (slice_index b 2) 7) (list_any is_nonzero (slots b)) (λ seven. facts.frame.leaf (eqb-true (slice_index b 2) 7 seven))) in
     let zero = both_false (has_other 70 219 b) (has_other_past b) facts.middle facts.frame.past in
     clear_none (page_causes b)
-        (passes_same (slice_index b 0) 165 facts.frame.gate, (passes_same (slice_index b 1) 80 facts.kind, (level, (code, (slot, (passes_most 800 (data_len b) facts.frame.short, (zero, tt)))))))
+    (passes_same (slice_index b 0) 165 facts.frame.gate, (passes_same (slice_index b 1) 80 facts.kind, (level, (code, (slot, (passes_most 800 (data_len b) facts.frame.short, (zero, tt)))))))
 
 level_of : (b : List ℕ) → slice_index b 2 ≡ (frame_value b).level
 unfolding frame_value
@@ -37,12 +37,13 @@ level_of b = refl
 pub page_of-found : (b : List ℕ) → IsBlock b → PageFacts b → IsPage (frame_value b) × (b ≡ page_bytes (frame_value b))
 unfolding page_bytes
 page_of-found b block facts =
-    let inner : field 70 149 b ≡ zeros 149 = zeros_field 70 149 b (omega (arith, block.size)) facts.middle in
-    (record { frame = IsFrame-frame_value b block facts.frame; below = subst (λ (n : ℕ). 1 ≤ n) (level_of b) facts.below },
-     frame_read b block facts.frame
-     ∙ ap (λ (k : ℕ). frame_bytes k (slice_index b 3) (frame_value b) (field 70 149 b)) facts.kind
-     ∙ ap (λ (c : ℕ). frame_bytes 80 c (frame_value b) (field 70 149 b)) facts.plain
-     ∙ ap (frame_bytes 80 0 (frame_value b)) inner)
+    let inner : field 70 149 b ≡ zeros 149 = zeros_field 70 149 b (omega (arith, block.size)) facts.middle in (
+      record { frame = IsFrame-frame_value b block facts.frame; below = subst (λ (n : ℕ). 1 ≤ n) (level_of b) facts.below },
+      frame_read b block facts.frame
+          ∙ ap (λ (k : ℕ). frame_bytes k (slice_index b 3) (frame_value b) (field 70 149 b)) facts.kind
+          ∙ ap (λ (c : ℕ). frame_bytes 80 c (frame_value b) (field 70 149 b)) facts.plain
+          ∙ ap (frame_bytes 80 0 (frame_value b)) inner,
+    )
 
 -- a page that is spelled is read
 pub page_of-page_bytes : (b : List ℕ) (p : PageValue) → IsPage p → b ≡ page_bytes p → page_of b ≡ Ok p

@@ -67,8 +67,8 @@ pub IsReference-reference : (n : ℕ) → IsSlot n → IsReference (reference n)
 IsReference-reference n slot =
     let code : n / 2 ^ 28 ≤ 12 = ltb-false 12 (n / 2 ^ 28) slot.coded in
     let plain : n % 2 ^ 28 ≡ 0 → (flags_of (n / 2 ^ 28)).copied ≡ false =
-        λ e. let zero_code : n / 2 ^ 28 ≡ 0 = is_zero (n / 2 ^ 28) (second_of (eqb (n % 2 ^ 28) 0) (not (eqb (n / 2 ^ 28) 0)) (rw e refl) slot.named) in
-            ap (λ (m : ℕ). (flags_of m).copied) zero_code in
+    λ e. let zero_code : n / 2 ^ 28 ≡ 0 = is_zero (n / 2 ^ 28) (second_of (eqb (n % 2 ^ 28) 0) (not (eqb (n / 2 ^ 28) 0)) (rw e refl) slot.named) in
+    ap (λ (m : ℕ). (flags_of m).copied) zero_code in
     record {
       sound = record {
         named = IsNamed-or_none (n % 2 ^ 28);

@@ -15,8 +15,8 @@ use crate::encode::{PAGE, VERSION};
 use crate::member::Member;
 use crate::members::Members;
 use crate::page::{Page, SLOTS};
-use crate::root::block_no;
 use crate::read::{has_other, u16_at, u32_at, u64_at};
+use crate::root::block_no;
 use crate::slots::{
     block_or_none, has_bad_code, has_bad_reference, has_dangling, references_of, slots_of,
 };
@@ -119,7 +119,10 @@ fn version_cause(block: &Block, numbers: &[u32; SLOTS]) -> Option<Why>
         (u32_at(block, 70) == 0, Why::Object),
         (u64_at(block, 74) == 0, Why::Serial),
         (has_bad_members(block), Why::Member),
-        (has_other(block, members_end, 219) | has_other_past(block), Why::Zero),
+        (
+            has_other(block, members_end, 219) | has_other_past(block),
+            Why::Zero,
+        ),
     ])
 }
 

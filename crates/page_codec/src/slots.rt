@@ -45,9 +45,7 @@ pub fn has_bad_code(numbers: &[u32]) -> bool
 pub fn has_dangling(numbers: &[u32]) -> bool
     ensures { result ≡ list_any is_dangling numbers.now }
 {
-    numbers
-        .iter()
-        .any(|number| (number % 0x1000_0000 == 0) & (number / 0x1000_0000 != 0))
+    numbers.iter().any(|number| (number % 0x1000_0000 == 0) & (number / 0x1000_0000 != 0))
 }
 
 /// Whether a slot is in use.
