@@ -8,3 +8,4 @@ pub mod NewStore
 pub mod Reading
 pub mod Causes
 pub mod Facts
+pub mod TableReading

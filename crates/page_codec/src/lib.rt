@@ -9,6 +9,7 @@ mod member;
 mod members;
 mod page;
 mod put;
+mod raw_entry;
 mod read;
 mod reference;
 mod root;
