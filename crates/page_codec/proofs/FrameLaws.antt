@@ -71,7 +71,7 @@ byte_in_field b at len k i e h = sym (get_or-take len (drop at b) k 0 h ∙ get_
 pub numbers_law : IsSpelled 4 (number_at w32 0) (big_endian w32) (λ n. n < 2 ^ 32)
 numbers_law = record {
   read = λ bytes len fits. (big_endian-number_at w32 (2 ^ 32) wide32 0 bytes fits (omega arith) ∙ take_all 4 bytes (omega arith), number_at-lt w32 (2 ^ 32) wide32 0 bytes fits);
-  width = λ n. length-big_endian w32 (2 ^ 32) wide32 n;
+  width = λ n _. length-big_endian w32 (2 ^ 32) wide32 n;
   again = λ n lt. number_at-big_endian w32 (2 ^ 32) wide32 0 n (big_endian w32 n) lt (take_all 4 (big_endian w32 n) (omega (arith, length-big_endian w32 (2 ^ 32) wide32 n)));
 }
 

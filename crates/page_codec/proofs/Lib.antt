@@ -11,3 +11,4 @@ pub mod FrameLaws
 pub mod PageLaws
 pub mod MemberLaws
 pub mod VersionLaws
+pub mod EntryLaws

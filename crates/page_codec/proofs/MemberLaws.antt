@@ -21,7 +21,7 @@ pub record HasNumbers (m : MemberValue) : Type 0 where
   pub object_below : m.object < 2 ^ 32
   pub block_below : m.block < 2 ^ 32
 
-length-member_bytes : (m : MemberValue) → length (member_bytes m) ≡ 8
+pub length-member_bytes : (m : MemberValue) → length (member_bytes m) ≡ 8
 length-member_bytes m = omega (arith, length-append (big_endian w32 m.object) (big_endian w32 m.block), length-big_endian w32 (2 ^ 32) wide32 m.object, length-big_endian w32 (2 ^ 32) wide32 m.block)
 
 two_numbers : (a b : ℕ) (bytes : List ℕ) → a < 2 ^ 32 → b < 2 ^ 32 → bytes ≡ big_endian w32 a ++ big_endian w32 b → (number_at w32 0 bytes ≡ a) × (number_at w32 4 bytes ≡ b)
@@ -43,7 +43,7 @@ member_law = record {
         ∙ sym (field-split 0 4 4 bytes) ∙ take_all 8 bytes (omega arith),
     record { object_below = number_at-lt w32 (2 ^ 32) wide32 0 bytes fits; block_below = number_at-lt w32 (2 ^ 32) wide32 4 bytes fits },
   );
-  width = length-member_bytes;
+  width = λ m _. length-member_bytes m;
   again = λ m h. let both = two_numbers m.object m.block (member_bytes m) h.object_below h.block_below refl in same_member (number_at w32 0 (member_bytes m)) (number_at w32 4 (member_bytes m)) m.object m.block both.0 both.1;
 }
 

@@ -43,7 +43,7 @@ none_in_pieces test value len (suc n) (suc i) at bytes e h none =
 -- a value of so many bytes, read and spelled
 pub record IsSpelled {V : Type 0} (len : ℕ) (value : List ℕ → V) (spell : V → List ℕ) (Good : V → Type 0) : Type 0 where
   pub read : (bytes : List ℕ) → length bytes ≡ len → IsBytes bytes → (spell (value bytes) ≡ bytes) × Good (value bytes)
-  pub width : (v : V) → length (spell v) ≡ len
+  pub width : (v : V) → Good v → length (spell v) ≡ len
   pub again : (v : V) → Good v → value (spell v) ≡ v
 
 pub record AreRead {V : Type 0} (spell : V → List ℕ) (Good : V → Type 0) (vs : List V) (bytes : List ℕ) (n : ℕ) : Type 0 where
@@ -75,8 +75,8 @@ unfolding pieces
 pieces_again len value spell Good law [] rest good = refl
 pieces_again len value spell Good law (v ∷ vs) rest good =
     let regrouped : flat_map spell (v ∷ vs) ++ rest ≡ spell v ++ (flat_map spell vs ++ rest) = ap (λ (xs : List ℕ). xs ++ rest) (flat_map-cons spell v vs) ∙ append_assoc (spell v) (flat_map spell vs) rest in
-    let front : take len (spell v ++ (flat_map spell vs ++ rest)) ≡ spell v = take_at (spell v) (flat_map spell vs ++ rest) len (law.width v) in
-    let back : drop len (spell v ++ (flat_map spell vs ++ rest)) ≡ flat_map spell vs ++ rest = drop_at (spell v) (flat_map spell vs ++ rest) len (law.width v) in
+    let front : take len (spell v ++ (flat_map spell vs ++ rest)) ≡ spell v = take_at (spell v) (flat_map spell vs ++ rest) len (law.width v good.0) in
+    let back : drop len (spell v ++ (flat_map spell vs ++ rest)) ≡ flat_map spell vs ++ rest = drop_at (spell v) (flat_map spell vs ++ rest) len (law.width v good.0) in
     let first = law.again v good.0 in
     let others = pieces_again len value spell Good law vs rest good.1 in
     ap (λ (b : List ℕ). map value (pieces len (suc (length vs)) b)) regrouped ∙ rw (front, back, first, others) refl
@@ -87,4 +87,12 @@ length-flat_map-spell spell len width [] = omega arith
 length-flat_map-spell spell len width (v ∷ vs) =
     let one = width v in
     let others = length-flat_map-spell spell len width vs in
+    ap length (flat_map-cons spell v vs) ∙ omega (arith, length-append (spell v) (flat_map spell vs), one, others)
+
+-- the same where only good values have that length
+pub length-flat_map-good : {V : Type 0} (spell : V → List ℕ) (len : ℕ) (Good : V → Type 0) → ((v : V) → Good v → length (spell v) ≡ len) → (vs : List V) → AllByRecursion Good vs → length (flat_map spell vs) ≡ len * length vs
+length-flat_map-good spell len Good width [] good = omega arith
+length-flat_map-good spell len Good width (v ∷ vs) good =
+    let one = width v good.0 in
+    let others = length-flat_map-good spell len Good width vs good.1 in
     ap length (flat_map-cons spell v vs) ∙ omega (arith, length-append (spell v) (flat_map spell vs), one, others)

@@ -22,7 +22,7 @@ use Rattle.page_codec.proofs.FieldLaws.{field-field, length-field}
 use Rattle.page_codec.proofs.ByteLaws.{IsBytes-drop, wide32, wide64, length-big_endian, big_endian-number_at, number_at-lt, number_at-big_endian, zeros_field, zeros_pass, length-zeros, field-split, fields, sum_of, concat-fields}
 use Rattle.page_codec.proofs.PieceLaws.{pieces_read, pieces_again, length-flat_map-spell}
 use Rattle.page_codec.proofs.SlotLaws.{IsNamed-or_none, or_none-below, or_zero-or_none, or_none-or_zero, or_zero-below}
-use Rattle.page_codec.proofs.MemberLaws.{HasNumbers, member_law, members_good, members_numbers, members_pass}
+use Rattle.page_codec.proofs.MemberLaws.{HasNumbers, length-member_bytes, member_law, members_good, members_numbers, members_pass}
 use Rattle.page_codec.proofs.FrameLaws.{IsBlock, AreFields, fields_join, fields_cut, are_seven, byte_in_field, frame_read, IsFrame-frame_value, IsFramed-frame_bytes, IsFrameRead-framed, length-frame_bytes}
 
 -- ---- what is read is spelled so
@@ -112,7 +112,7 @@ version_of-found b block facts = (
 -- ---- what is spelled so is read
 
 length-member : (m : MemberValue) → length (member_bytes m) ≡ 8
-length-member m = member_law.width m
+length-member m = length-member_bytes m
 
 pub length-version_middle : (v : VersionValue) → length v.members ≤ 16 → length (version_middle v) ≡ 149
 unfolding version_middle
