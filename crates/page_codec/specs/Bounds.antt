@@ -129,3 +129,15 @@ pub record IsPart (entries : List EntryValue) : Type 0 where
   pub count : length entries ≡ 63
   pub each : AllByRecursion IsEntry entries
   pub used : list_any has_generation entries ≡ true
+
+-- what a table keeps: sixty entries in format 1, and 4,032 in format 2, whose first blocks are tried when they are walked
+pub record IsSoundTable (t : TableValue) : Type 0 where
+  pub first_format : 1 ≤ t.format
+  pub last_format : t.format ≤ 2
+  pub least : 2 ≤ t.blocks
+  pub most : t.blocks ≤ 65536
+  pub parts_below : AllByRecursion (IsPartBelow t.blocks) t.parts
+  pub no_parts : t.format ≡ 1 → t.parts ≡ no_parts
+  pub sixty : t.format ≡ 1 → length t.entries ≡ 60
+  pub whole : t.format ≡ 2 → length t.entries ≡ 4032
+  pub first_below : t.format ≡ 1 → AllByRecursion (IsFirstBelow t.blocks) t.entries

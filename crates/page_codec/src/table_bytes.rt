@@ -1,8 +1,10 @@
 //! Block 0 and the parts of a table as bytes.
-ghost use Rattle.std.specs.Prelude.{◌≡◌, ℕ, ◌+◌, ◌*◌, ◌^◌, ◌<◌, ◌≤◌, ◌++◌, take, length};
+ghost use Rattle.std.specs.Prelude.{◌≡◌, ℕ, ◌+◌, ◌*◌, ◌^◌, ◌<◌, ◌≤◌, ◌++◌, [], ◌∷◌, take, length};
 ghost use Rattle.std.specs.List.{flat_map, AllByRecursion};
-ghost use Rattle.page_codec.specs.Bounds.{IsEntry, IsRoot};
-ghost use Rattle.page_codec.specs.TableSpelling.{entry_bytes, part_number_bytes, root_rest, root_bytes};
+ghost use Rattle.std.specs.Int.{w32, w64};
+ghost use Rattle.page_codec.specs.Numbers.{big_endian};
+ghost use Rattle.page_codec.specs.Bounds.{IsEntry};
+ghost use Rattle.page_codec.specs.TableSpelling.{entry_bytes, part_number_bytes, rest_bytes, root_bytes, part_bytes};
 
 use crate::Block;
 use crate::encode::number_of;
@@ -56,26 +58,47 @@ fn put_parts(block: &mut Block, at: usize, parts: &[Option<BlockNo>]) -> usize
 }
 
 /// Writes what block 0 has behind its numbers, by the format, up to the end of the block.
-fn put_rest(block: &mut Block, at: usize, root: &TableRoot)
-    requires { at ≡ 16 }
-    ensures { take 1024 block.new ≡ take at block.old ++ root_rest root.now }
+fn put_rest(block: &mut Block, at: usize, format: u8, parts: &[Option<BlockNo>], first: &[TableEntry])
+    requires place { at ≡ 16 }
+    requires sixty { format ≡ 1 → length first.now ≡ 60 }
+    requires sixty_four { length parts.now ≡ 64 }
+    ensures { take 1024 block.new ≡ take at block.old ++ rest_bytes format parts.now first.now }
 {
-    if root.format == 1 {
-        let next = put_entries(block, at, &root.first);
+    if format == 1 {
+        let next = put_entries(block, at, first);
         put_zeros(block, next, 48);
     } else {
-        let next = put_parts(block, at, &root.parts);
+        let next = put_parts(block, at, parts);
         put_zeros(block, next, 752);
     }
 }
 
+/// Writes what block 0 begins with: the head, the number of blocks and the key.
+fn put_head(block: &mut Block, format: u8, blocks: u32, key: u64) -> usize
+    ensures next { result ≡ 16 }
+    ensures front { take result block.new ≡ (165 ∷ 84 ∷ format ∷ 0 ∷ []) ++ big_endian w32 blocks ++ big_endian w64 key }
+{
+    let next = put(block, 0, &[0xa5, TABLE, format, 0]);
+    let next = put_u32(block, next, blocks);
+    put_u64(block, next, key)
+}
+
 /// Writes the one spelling of block 0 into all of the block.
-#[tactic(auto, unfolding(crate::specs::TableSpelling::root_bytes))]
 pub fn encode_root(root: &TableRoot, into: &mut Block)
     ensures { into.new ≡ root_bytes root.now }
 {
-    let next = put(into, 0, &[0xa5, TABLE, root.format, 0]);
-    let next = put_u32(into, next, root.blocks);
-    let next = put_u64(into, next, root.key);
-    put_rest(into, next, root);
+    let next = put_head(into, root.format, root.blocks, root.key);
+    put_rest(into, next, root.format, &root.parts, &root.first);
+}
+
+/// Writes the one spelling of part j with these sixty-three entries into all of the block.
+#[tactic(auto, unfolding(crate::specs::TableSpelling::part_bytes))]
+pub fn put_part(block: &mut Block, j: u8, entries: &[TableEntry])
+    requires { length entries.now ≡ 63 }
+    ensures bytes { block.new ≡ part_bytes j entries.now }
+    ensures each { AllByRecursion IsEntry entries.now }
+{
+    let next = put(block, 0, &[0xa5, PART, j]);
+    let next = put_zeros(block, next, 13);
+    put_entries(block, next, entries);
 }
