@@ -1,5 +1,5 @@
 -- Where no cause applies, every test is false.
-use Rattle.std.proofs.Common.{◌≡◌, ℕ, ◌≤◌, ◌<◌, Bool, true, false, not, cond, eqb, ltb, leb, List, [], ◌∷◌, refl, ap, ◌∙◌, ◌||◌, ◌&&◌, arith}
+use Rattle.std.proofs.Common.{◌≡◌, ℕ, ◌≤◌, ◌<◌, Bool, true, false, not, cond, eqb, ltb, leb, List, [], ◌∷◌, refl, ap, ◌∙◌, ◌||◌, ◌&&◌, ◌++◌, arith}
 use Rattle.std.proofs.lemmas.Bool.{ne_eqb, eqb-false, le-ltb, leb-true}
 use Rattle.std.specs.Prelude.{Option, Some, None}
 use Rattle.page_codec.specs.declared.why.Why.{Why}
@@ -63,3 +63,16 @@ passes_below n m h = by (leb n m) refl
 pub passes_if : (a b : Bool) → (a ≡ true → b ≡ false) → (a && b) ≡ false
 passes_if true b h = h refl
 passes_if false b h = refl
+
+-- causes behind causes
+pub first_cause-append-none : (xs ys : List Cause) → first_cause xs ≡ None → first_cause (xs ++ ys) ≡ first_cause ys
+first_cause-append-none [] ys e = refl
+first_cause-append-none (c ∷ xs) ys e = let both = test_none c.0 c.1 (first_cause xs) e in rw both.0 (first_cause-append-none xs ys both.1)
+
+some_stays : (b : Bool) (w why : Why) (r s : Option Why) → (r ≡ Some why → s ≡ Some why) → cond b (Some w) r ≡ Some why → cond b (Some w) s ≡ Some why
+some_stays true w why r s h e = e
+some_stays false w why r s h e = h e
+
+pub first_cause-append-some : (xs ys : List Cause) (why : Why) → first_cause xs ≡ Some why → first_cause (xs ++ ys) ≡ Some why
+first_cause-append-some [] ys why e = absurd cc
+first_cause-append-some (c ∷ xs) ys why e = some_stays c.0 c.1 why (first_cause xs) (first_cause (xs ++ ys)) (λ h. first_cause-append-some xs ys why h) e

@@ -12,3 +12,4 @@ pub mod PageLaws
 pub mod MemberLaws
 pub mod VersionLaws
 pub mod EntryLaws
+pub mod TableFactLaws

@@ -9,3 +9,4 @@ pub mod Reading
 pub mod Causes
 pub mod Facts
 pub mod TableReading
+pub mod TableFacts

@@ -16,6 +16,7 @@ mod root;
 mod secret;
 mod slots;
 mod table_bytes;
+mod table_reading;
 mod version;
 mod why;
 
@@ -29,6 +30,7 @@ pub use page::{Page, SLOTS};
 pub use reference::Reference;
 pub use root::TableRoot;
 pub use secret::secret_of;
+pub use table_reading::{PART_ENTRIES, decode_part, decode_root};
 pub use version::VersionPage;
 pub use why::{BadPage, Why};
 

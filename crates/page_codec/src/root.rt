@@ -92,7 +92,7 @@ fn new_entries(files: u32, key: u64) -> [TableEntry; ROOT_ENTRIES]
 
 /// No parts.
 #[tactic(auto, unfolding(crate::specs::Blank::no_parts))]
-fn no_parts() -> [Option<BlockNo>; PARTS]
+pub fn no_parts() -> [Option<BlockNo>; PARTS]
     ensures { result ≡ no_parts }
 {
     [None; PARTS]

@@ -14,7 +14,7 @@ use afs_base::BlockNo;
 use ref_flags::Flags;
 
 /// Reads as many numbers of four bytes as there is room for.
-fn read_numbers(bytes: &[u8], numbers: &mut [u32])
+pub fn read_numbers(bytes: &[u8], numbers: &mut [u32])
     requires { 4 * length numbers.old ≤ length bytes.now }
     ensures { numbers.new ≡ map (number_at w32 0) (pieces 4 (length numbers.old) bytes.now) }
 {
