@@ -35,7 +35,7 @@ pub both_false : (a b : Bool) → a ≡ false → b ≡ false → (a || b) ≡ f
 both_false true b e f = absurd cc
 both_false false b e f = f
 
-eqb_same : (n : ℕ) → eqb n n ≡ true
+pub eqb_same : (n : ℕ) → eqb n n ≡ true
 eqb_same n = by (eqb n n) refl
   where
     by : (b : Bool) → eqb n n ≡ b → eqb n n ≡ true

@@ -1,21 +1,22 @@
 -- Entries of a table as bytes.
-use Rattle.std.proofs.Common.{◌≡◌, ℕ, zero, suc, ◌+◌, ◌-◌, ◌*◌, ◌^◌, ◌<◌, ◌≤◌, Bool, true, false, not, ◌||◌, ◌&&◌, cond, eqb, ltb, leb, List, [], ◌∷◌, ◌++◌, length, take, drop, map, refl, sym, ap, subst, ◌∙◌, append_assoc, arith}
+use Rattle.std.proofs.Common.{◌≡◌, ℕ, zero, suc, ◌+◌, ◌-◌, ◌*◌, ◌^◌, ◌<◌, ◌≤◌, Bool, true, false, not, ◌||◌, ◌&&◌, cond, eqb, ltb, leb, List, [], ◌∷◌, ◌++◌, length, take, drop, map, get_or, replicate, refl, sym, ap, subst, ◌∙◌, append_assoc, arith}
 use Rattle.std.specs.Prelude.{Option, Some, None, IfSome, IfNone}
 use Rattle.std.specs.List.{list_any, list_all, flat_map, AllByRecursion}
 use Rattle.std.specs.Int.{w32}
 use Rattle.std.proofs.lemmas.Bool.{eqb-true, eqb-false, ne_eqb, leb-false}
-use Rattle.std.proofs.lemmas.List.{take_all, take_at, drop_at, drop-drop, length-append, length-map}
+use Rattle.std.proofs.lemmas.List.{take_all, take_at, drop_at, drop-drop, length-append, length-map, length-replicate}
 use Rattle.page_codec.specs.declared.raw_entry.RawEntry.{RawEntry}
 use Rattle.page_codec.specs.Numbers.{IsBytes, big_endian, field, number_at, zeros, or_zero, or_none}
 use Rattle.page_codec.specs.Values.{EntryValue}
-use Rattle.page_codec.specs.Bounds.{IsNamed, IsSoundEntry, IsEntry, IsFirstBelow, has_generation}
-use Rattle.page_codec.specs.TableSpelling.{entry_bytes}
+use Rattle.page_codec.specs.Bounds.{IsNamed, IsSoundEntry, IsEntry, IsFirstBelow, IsPartBelow, has_generation}
+use Rattle.page_codec.specs.Blank.{no_entry, no_entries}
+use Rattle.page_codec.specs.TableSpelling.{entry_bytes, part_number_bytes}
 use Rattle.page_codec.specs.Causes.{is_nonzero}
 use Rattle.page_codec.specs.TableReading.{raw_value, entry_value, is_far, is_uncounted, is_stray, is_unused}
 use Rattle.page_codec.proofs.CauseLaws.{neither, both_false, passes_positive, passes_below, passes_if}
 use Rattle.page_codec.proofs.FactLaws.{is_positive}
 use Rattle.page_codec.proofs.FieldLaws.{length-field}
-use Rattle.page_codec.proofs.ByteLaws.{IsBytes-field, wide32, length-big_endian, big_endian-number_at, number_at-lt, number_at-big_endian, zeros_from, zeros_pass, field-split}
+use Rattle.page_codec.proofs.ByteLaws.{IsBytes-field, wide32, length-big_endian, big_endian-number_at, number_at-lt, number_at-big_endian, zeros_from, zeros_pass, length-zeros, field-split}
 use Rattle.page_codec.proofs.PieceLaws.{IsSpelled}
 use Rattle.page_codec.proofs.SlotLaws.{IsNamed-or_none, or_none-below, or_zero-or_none, or_none-or_zero, or_zero-below}
 
@@ -189,3 +190,92 @@ used_is (raw ∷ raws) = ap (λ (b : Bool). not (eqb raw.generation 0) || b) (us
     de_morgan : (a b : Bool) → (not a || not b) ≡ not (a && b)
     de_morgan true b = refl
     de_morgan false b = refl
+
+-- ---- parts' blocks, and no entries
+
+part_by : (limit n : ℕ) (b : Bool) → eqb n 0 ≡ b → n < limit → IsPartBelow limit (cond b None (Some n))
+part_by limit n true e h = tt
+part_by limit n false e h = let some : n ≡ 0 → ⊥ = eqb-false n 0 e in (omega arith, h)
+
+pub parts_near : (limit : ℕ) (ns : List ℕ) → list_any (leb limit) ns ≡ false → AllByRecursion (IsPartBelow limit) (map or_none ns)
+parts_near limit [] e = tt
+parts_near limit (n ∷ ns) e =
+    let both = neither (leb limit n) (list_any (leb limit) ns) e in
+    (part_by limit n (eqb n 0) refl (leb-false limit n both.0), parts_near limit ns both.1)
+
+part_far : (limit : ℕ) (o : Option ℕ) → 0 < limit → IsPartBelow limit o → leb limit (or_zero o) ≡ false
+part_far limit None p h = passes_below limit 0 p
+part_far limit (Some n) p h = passes_below limit n h.1
+
+pub parts_pass : (limit : ℕ) (os : List (Option ℕ)) → 0 < limit → AllByRecursion (IsPartBelow limit) os → list_any (leb limit) (map or_zero os) ≡ false
+parts_pass limit [] p h = refl
+parts_pass limit (o ∷ os) p h = both_false (leb limit (or_zero o)) (list_any (leb limit) (map or_zero os)) (part_far limit o p h.0) (parts_pass limit os p h.1)
+
+part_named : (limit : ℕ) (o : Option ℕ) → IsPartBelow limit o → IsNamed o
+part_named limit None h = tt
+part_named limit (Some n) h = h.0
+
+pub parts_again : (limit : ℕ) (os : List (Option ℕ)) → AllByRecursion (IsPartBelow limit) os → map or_none (map or_zero os) ≡ os
+parts_again limit [] h = refl
+parts_again limit (o ∷ os) h = let first = or_none-or_zero o (part_named limit o h.0) in let others = parts_again limit os h.1 in cc
+
+part_small : (limit : ℕ) (o : Option ℕ) → limit ≤ 65536 → IsPartBelow limit o → or_zero o < 2 ^ 32
+part_small limit None p h = omega arith
+part_small limit (Some n) p h = let near : n < limit = h.1 in omega arith
+
+pub parts_small : (limit : ℕ) (os : List (Option ℕ)) → limit ≤ 65536 → AllByRecursion (IsPartBelow limit) os → AllByRecursion (λ n. n < 2 ^ 32) (map or_zero os)
+parts_small limit [] p h = tt
+parts_small limit (o ∷ os) p h = (part_small limit o p h.0, parts_small limit os p h.1)
+
+pub parts_bytes : (os : List (Option ℕ)) → flat_map part_number_bytes os ≡ flat_map (big_endian w32) (map or_zero os)
+parts_bytes [] = refl
+parts_bytes (o ∷ os) = ap (λ (x : List ℕ). part_number_bytes o ++ x) (parts_bytes os)
+
+pub parts_back : (ns : List ℕ) → map or_zero (map or_none ns) ≡ ns
+parts_back [] = refl
+parts_back (n ∷ ns) = let first = or_zero-or_none n in let others = parts_back ns in cc
+
+nones_below : (limit n : ℕ) → AllByRecursion (IsFirstBelow limit) (replicate n no_entry)
+nones_below limit zero = tt
+nones_below limit (suc n) = (tt, nones_below limit n)
+
+pub IsFirstBelow-no_entries : (limit n : ℕ) → AllByRecursion (IsFirstBelow limit) (no_entries n)
+unfolding no_entries
+IsFirstBelow-no_entries limit n = nones_below limit n
+
+pub length-no_entries : (n : ℕ) → length (no_entries n) ≡ n
+unfolding no_entries
+length-no_entries n = length-replicate n no_entry
+
+zero_bytes : (i : ℕ) → get_or (zeros 8) i 0 < 256
+unfolding zeros
+zero_bytes zero = omega arith
+zero_bytes (suc zero) = omega arith
+zero_bytes (suc (suc zero)) = omega arith
+zero_bytes (suc (suc (suc zero))) = omega arith
+zero_bytes (suc (suc (suc (suc zero)))) = omega arith
+zero_bytes (suc (suc (suc (suc (suc zero))))) = omega arith
+zero_bytes (suc (suc (suc (suc (suc (suc zero)))))) = omega arith
+zero_bytes (suc (suc (suc (suc (suc (suc (suc zero))))))) = omega arith
+zero_bytes (suc (suc (suc (suc (suc (suc (suc (suc i)))))))) = omega arith
+
+IsEntry-no_entry : IsEntry no_entry
+IsEntry-no_entry = record {
+  sound = record { named = tt; generation = tt; secret = refl };
+  first_below = tt;
+  generation_below = omega arith;
+  eight = length-zeros 8;
+  secret_bytes = zero_bytes;
+}
+
+nones_are : (n : ℕ) → AllByRecursion IsEntry (replicate n no_entry)
+nones_are zero = tt
+nones_are (suc n) = (IsEntry-no_entry, nones_are n)
+
+pub IsEntry-no_entries : (n : ℕ) → AllByRecursion IsEntry (no_entries n)
+unfolding no_entries
+IsEntry-no_entries n = nones_are n
+
+pub entries_below : (es : List EntryValue) → AllByRecursion IsEntry es → AllByRecursion (IsFirstBelow (2 ^ 28)) es
+entries_below [] h = tt
+entries_below (e ∷ es) h = (h.0.first_below, entries_below es h.1)

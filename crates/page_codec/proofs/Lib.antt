@@ -13,3 +13,4 @@ pub mod MemberLaws
 pub mod VersionLaws
 pub mod EntryLaws
 pub mod TableFactLaws
+pub mod PartLaws

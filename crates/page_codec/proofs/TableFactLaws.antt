@@ -6,7 +6,7 @@ use Rattle.std.proofs.lemmas.Bool.{eqb-true, ltb-false, leb-false, ne_eqb}
 use Rattle.page_codec.specs.Causes.{Cause, first_cause, has_other}
 use Rattle.page_codec.specs.TableReading.{raw_entries, is_far, is_uncounted, is_stray, is_unused, block_count, part_numbers, head_causes, one_causes, two_causes, root_causes, part_causes}
 use Rattle.page_codec.specs.TableFacts.{OneFacts, TwoFacts, RootFacts, PartFacts}
-use Rattle.page_codec.proofs.CauseLaws.{Clear, none_clear, clear_none, neither, both_false, passes_same, passes_most, passes_if, first_cause-append-none, eqb_same}
+use Rattle.page_codec.proofs.CauseLaws.{Clear, none_clear, clear_none, neither, both_false, passes_same, passes_most, passes_if, first_cause-append-none}
 use Rattle.page_codec.proofs.FactLaws.{is_same}
 
 -- what is behind causes that do not apply
