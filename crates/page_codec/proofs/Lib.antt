@@ -14,3 +14,4 @@ pub mod VersionLaws
 pub mod EntryLaws
 pub mod TableFactLaws
 pub mod PartLaws
+pub mod RootLaws

@@ -58,7 +58,7 @@ fn put_parts(block: &mut Block, at: usize, parts: &[Option<BlockNo>]) -> usize
 }
 
 /// Writes what block 0 has behind its numbers, by the format, up to the end of the block.
-fn put_rest(block: &mut Block, at: usize, format: u8, parts: &[Option<BlockNo>], first: &[TableEntry])
+pub fn put_rest(block: &mut Block, at: usize, format: u8, parts: &[Option<BlockNo>], first: &[TableEntry])
     requires place { at ≡ 16 }
     requires sixty { format ≡ 1 → length first.now ≡ 60 }
     requires sixty_four { length parts.now ≡ 64 }
@@ -74,7 +74,7 @@ fn put_rest(block: &mut Block, at: usize, format: u8, parts: &[Option<BlockNo>],
 }
 
 /// Writes what block 0 begins with: the head, the number of blocks and the key.
-fn put_head(block: &mut Block, format: u8, blocks: u32, key: u64) -> usize
+pub fn put_head(block: &mut Block, format: u8, blocks: u32, key: u64) -> usize
     ensures next { result ≡ 16 }
     ensures front { take result block.new ≡ (165 ∷ 84 ∷ format ∷ 0 ∷ []) ++ big_endian w32 blocks ++ big_endian w64 key }
 {
