@@ -34,8 +34,14 @@ pub record HasRoom (raw : RawEntry) : Type 0 where
 length-raw_bytes : (raw : RawEntry) → HasRoom raw → length (raw_bytes raw) ≡ 16
 length-raw_bytes raw h =
     let eight : length raw.secret ≡ 8 = h.eight in
-    omega (arith, length-append (big_endian w32 raw.first ++ big_endian w32 raw.generation) raw.secret, length-append (big_endian w32 raw.first) (big_endian w32 raw.generation),
-        length-big_endian w32 (2 ^ 32) wide32 raw.first, length-big_endian w32 (2 ^ 32) wide32 raw.generation, eight)
+    omega (
+      arith,
+      length-append (big_endian w32 raw.first ++ big_endian w32 raw.generation) raw.secret,
+      length-append (big_endian w32 raw.first) (big_endian w32 raw.generation),
+      length-big_endian w32 (2 ^ 32) wide32 raw.first,
+      length-big_endian w32 (2 ^ 32) wide32 raw.generation,
+      eight,
+    )
 
 same_raw : (a b c d : ℕ) (x y : List ℕ) → a ≡ b → c ≡ d → x ≡ y → (let r : RawEntry = record { first = a; generation = c; secret = x } in r) ≡ record { first = b; generation = d; secret = y }
 same_raw a b c d x y e f g = cc
@@ -53,22 +59,23 @@ raw_again raw h =
     let second : field 4 4 (a ++ b ++ raw.secret) ≡ b = ap (λ (x : List ℕ). take 4 (drop 4 x)) right ∙ ap (take 4) (drop_at a (b ++ raw.secret) 4 la) ∙ take_at b raw.secret 4 lb in
     let third : field 8 8 (a ++ b ++ raw.secret) ≡ raw.secret = ap (take 8) (drop_at (a ++ b) raw.secret 8 lab) ∙ take_all 8 raw.secret (omega arith) in
     same_raw (number_at w32 0 (raw_bytes raw)) raw.first (number_at w32 4 (raw_bytes raw)) raw.generation (field 8 8 (raw_bytes raw)) raw.secret
-        (number_at-big_endian w32 (2 ^ 32) wide32 0 raw.first (raw_bytes raw) h.first_below first)
-        (number_at-big_endian w32 (2 ^ 32) wide32 4 raw.generation (raw_bytes raw) h.generation_below second) third
+    (number_at-big_endian w32 (2 ^ 32) wide32 0 raw.first (raw_bytes raw) h.first_below first)
+    (number_at-big_endian w32 (2 ^ 32) wide32 4 raw.generation (raw_bytes raw) h.generation_below second) third
 
 pub raw_law : IsSpelled 16 raw_value raw_bytes HasRoom
 raw_law = record {
-  read = λ bytes size fits.
-      (ap (λ (x : List ℕ). x ++ big_endian w32 (number_at w32 4 bytes) ++ field 8 8 bytes) (big_endian-number_at w32 (2 ^ 32) wide32 0 bytes fits (omega arith))
-       ∙ ap (λ (x : List ℕ). field 0 4 bytes ++ x ++ field 8 8 bytes) (big_endian-number_at w32 (2 ^ 32) wide32 4 bytes fits (omega arith))
-       ∙ ap (λ (x : List ℕ). x ++ field 8 8 bytes) (sym (field-split 0 4 4 bytes))
-       ∙ sym (field-split 0 8 8 bytes) ∙ take_all 16 bytes (omega arith),
-       record {
-         first_below = number_at-lt w32 (2 ^ 32) wide32 0 bytes fits;
-         generation_below = number_at-lt w32 (2 ^ 32) wide32 4 bytes fits;
-         eight = length-field 8 8 bytes (omega arith);
-         secret_bytes = IsBytes-field 8 8 bytes fits;
-       });
+  read = λ bytes size fits. (
+    ap (λ (x : List ℕ). x ++ big_endian w32 (number_at w32 4 bytes) ++ field 8 8 bytes) (big_endian-number_at w32 (2 ^ 32) wide32 0 bytes fits (omega arith))
+        ∙ ap (λ (x : List ℕ). field 0 4 bytes ++ x ++ field 8 8 bytes) (big_endian-number_at w32 (2 ^ 32) wide32 4 bytes fits (omega arith))
+        ∙ ap (λ (x : List ℕ). x ++ field 8 8 bytes) (sym (field-split 0 4 4 bytes))
+        ∙ sym (field-split 0 8 8 bytes) ∙ take_all 16 bytes (omega arith),
+    record {
+      first_below = number_at-lt w32 (2 ^ 32) wide32 0 bytes fits;
+      generation_below = number_at-lt w32 (2 ^ 32) wide32 4 bytes fits;
+      eight = length-field 8 8 bytes (omega arith);
+      secret_bytes = IsBytes-field 8 8 bytes fits;
+    },
+  );
   width = length-raw_bytes;
   again = raw_again;
 }
@@ -111,13 +118,16 @@ entries_read limit (raw ∷ raws) small room far counted stray =
     let rest = entries_read limit raws small room.1 f.1 g.1 s.1 in
     let near : raw.first < limit = leb-false limit raw.first f.0 in
     record {
-      each = (record {
-        sound = IsSoundEntry-entry_value raw room.0.eight g.0 s.0;
-        first_below = or_none-below raw.first (2 ^ 28) (omega arith);
-        generation_below = room.0.generation_below;
-        eight = room.0.eight;
-        secret_bytes = room.0.secret_bytes;
-      }, rest.each);
+      each = (
+        record {
+          sound = IsSoundEntry-entry_value raw room.0.eight g.0 s.0;
+          first_below = or_none-below raw.first (2 ^ 28) (omega arith);
+          generation_below = room.0.generation_below;
+          eight = room.0.eight;
+          secret_bytes = room.0.secret_bytes;
+        },
+        rest.each,
+      );
       spelled = ap (λ (n : ℕ). big_endian w32 n ++ big_endian w32 raw.generation ++ raw.secret ++ flat_map entry_bytes (map entry_value raws)) (or_zero-or_none raw.first)
           ∙ ap (λ (x : List ℕ). raw_bytes raw ++ x) rest.spelled;
     }

@@ -60,10 +60,11 @@ part_found_facts j b block facts =
     let head : field 0 3 b ≡ 165 ∷ 69 ∷ j ∷ [] = three_bytes b (omega (arith, block.size)) ∙ three (slice_index b 0) (slice_index b 1) (slice_index b 2) 165 69 j facts.gate facts.kind facts.index in
     let blank : field 3 13 b ≡ zeros 13 = zeros_field 3 13 b (omega (arith, block.size)) facts.blank in
     let entries : field 16 1008 b ≡ flat_map entry_bytes (map entry_value raws) = sym read.spelled ∙ sym are.spelled in
-    let whole : b ≡ field 0 1024 b = sym (take_all 1024 b (omega (arith, block.size))) in
-    (record { count = length-map raws entry_value ∙ read.count; each = are.each; used = used_is raws ∙ ap not facts.used },
-     whole ∙ field-split 0 16 1008 b ∙ ap (λ (x : List ℕ). x ++ field 16 1008 b) (field-split 0 3 13 b)
-     ∙ joined3 (field 0 3 b) (field 3 13 b) (field 16 1008 b) (165 ∷ 69 ∷ j ∷ []) (zeros 13) (flat_map entry_bytes (map entry_value raws)) head blank entries)
+    let whole : b ≡ field 0 1024 b = sym (take_all 1024 b (omega (arith, block.size))) in (
+      record { count = length-map raws entry_value ∙ read.count; each = are.each; used = used_is raws ∙ ap not facts.used },
+      whole ∙ field-split 0 16 1008 b ∙ ap (λ (x : List ℕ). x ++ field 16 1008 b) (field-split 0 3 13 b)
+          ∙ joined3 (field 0 3 b) (field 3 13 b) (field 16 1008 b) (165 ∷ 69 ∷ j ∷ []) (zeros 13) (flat_map entry_bytes (map entry_value raws)) head blank entries,
+    )
 
 padded : (a b c : List ℕ) → a ++ b ++ c ≡ a ++ b ++ c ++ [] ++ [] ++ [] ++ []
 padded a b c = simp append-nil
@@ -79,11 +80,11 @@ part_of-part_bytes j b es h e =
     let count : length es ≡ 63 = h.count in
     let size : length (flat_map entry_bytes es) ≡ 1008 = length-entries es h.each ∙ ap (λ (n : ℕ). 16 * n) count in
     let cut = ap (fields 0 (3 ∷ 13 ∷ 1008 ∷ 0 ∷ 0 ∷ 0 ∷ 0 ∷ [])) (e ∙ padded head (zeros 13) (flat_map entry_bytes es))
-        ∙ fields_cut [] head (zeros 13) (flat_map entry_bytes es) [] [] [] [] 0 3 13 1008 0 0 0 0 refl refl (length-zeros 13) size refl refl refl refl in
+    ∙ fields_cut [] head (zeros 13) (flat_map entry_bytes es) [] [] [] [] 0 3 13 1008 0 0 0 0 refl refl (length-zeros 13) size refl refl refl refl in
     let are = are_seven (field 0 3 b) (field 3 13 b) (field 16 1008 b) [] [] [] [] head (zeros 13) (flat_map entry_bytes es) [] [] [] [] cut in
     let byte : (i : ℕ) → i < 3 → slice_index b i ≡ slice_index head i = λ i lt. byte_in_field b 0 3 i i (omega arith) lt ∙ ap (λ (x : List ℕ). slice_index x i) are.e1 in
     let raws : raw_entries 63 b ≡ map raw_of es =
-        ap (λ (n : ℕ). raw_entries n b) (sym count) ∙ raws_again b es h.each (ap (λ (n : ℕ). field 16 (16 * n) b) count ∙ are.e3) in
+    ap (λ (n : ℕ). raw_entries n b) (sym count) ∙ raws_again b es h.each (ap (λ (n : ℕ). field 16 (16 * n) b) count ∙ are.e3) in
     let value : map entry_value (raw_entries 63 b) ≡ es = ap (map entry_value) raws ∙ entries_again es h.each in
     let used = sym (used_is (raw_entries 63 b)) ∙ ap (list_any has_generation) value ∙ h.used in
     let facts : PartFacts j b = record {

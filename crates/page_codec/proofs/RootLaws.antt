@@ -27,7 +27,7 @@ use Rattle.page_codec.proofs.TableFactLaws.{RootFacts-none, root_causes-none}
 
 length-no_parts : length no_parts ≡ 64
 unfolding no_parts
-length-no_parts = length-replicate 64 None
+length-no_parts = let none : Option ℕ = None in length-replicate 64 none
 
 -- ---- what is read is spelled so
 
@@ -115,29 +115,30 @@ root_found_facts b block facts =
     let t = eqb (slice_index b 2) 1 in
     let read = format_read b t refl block facts in
     let head : field 0 4 b ≡ 165 ∷ 84 ∷ slice_index b 2 ∷ 0 ∷ [] =
-        four_bytes b (omega (arith, block.size)) ∙ four (slice_index b 0) (slice_index b 1) (slice_index b 2) (slice_index b 3) 165 84 (slice_index b 2) 0 facts.gate facts.kind refl facts.plain in
+    four_bytes b (omega (arith, block.size)) ∙ four (slice_index b 0) (slice_index b 1) (slice_index b 2) (slice_index b 3) 165 84 (slice_index b 2) 0 facts.gate facts.kind refl facts.plain in
     let blocks : field 4 4 b ≡ big_endian w32 (number_at w32 4 b) = sym (big_endian-number_at w32 (2 ^ 32) wide32 4 b block.fits (omega (arith, block.size))) in
     let key : field 8 8 b ≡ big_endian w64 (number_at w64 8 b) = sym (big_endian-number_at w64 (2 ^ 64) wide64 8 b block.fits (omega (arith, block.size))) in
-    let whole : b ≡ field 0 1024 b = sym (take_all 1024 b (omega (arith, block.size))) in
-    (record {
-       sound = record {
-         first_format = facts.first_format;
-         last_format = facts.last_format;
-         least = facts.least;
-         most = facts.most;
-         parts_below = read.parts_below;
-         first_below = read.first_below;
-         no_parts = read.no_parts_in_one;
-         no_first = read.no_first_in_two;
-       };
-       key_below = number_at-lt w64 (2 ^ 64) wide64 8 b block.fits;
-       parts_count = read.parts_count;
-       first_count = read.first_count;
-       each = read.each;
-     },
-     whole ∙ field-split 0 16 1008 b ∙ ap (λ (x : List ℕ). x ++ field 16 1008 b) (field-split 0 8 8 b ∙ ap (λ (x : List ℕ). x ++ field 8 8 b) (field-split 0 4 4 b))
-     ∙ joined4 (field 0 4 b) (field 4 4 b) (field 8 8 b) (field 16 1008 b) (165 ∷ 84 ∷ slice_index b 2 ∷ 0 ∷ []) (big_endian w32 (number_at w32 4 b)) (big_endian w64 (number_at w64 8 b))
-         (rest_bytes (slice_index b 2) (parts_if t b) (first_if t b)) head blocks key read.spelled)
+    let whole : b ≡ field 0 1024 b = sym (take_all 1024 b (omega (arith, block.size))) in (
+      record {
+        sound = record {
+          first_format = facts.first_format;
+          last_format = facts.last_format;
+          least = facts.least;
+          most = facts.most;
+          parts_below = read.parts_below;
+          first_below = read.first_below;
+          no_parts = read.no_parts_in_one;
+          no_first = read.no_first_in_two;
+        };
+        key_below = number_at-lt w64 (2 ^ 64) wide64 8 b block.fits;
+        parts_count = read.parts_count;
+        first_count = read.first_count;
+        each = read.each;
+      },
+      whole ∙ field-split 0 16 1008 b ∙ ap (λ (x : List ℕ). x ++ field 16 1008 b) (field-split 0 8 8 b ∙ ap (λ (x : List ℕ). x ++ field 8 8 b) (field-split 0 4 4 b))
+          ∙ joined4 (field 0 4 b) (field 4 4 b) (field 8 8 b) (field 16 1008 b) (165 ∷ 84 ∷ slice_index b 2 ∷ 0 ∷ []) (big_endian w32 (number_at w32 4 b)) (big_endian w64 (number_at w64 8 b))
+          (rest_bytes (slice_index b 2) (parts_if t b) (first_if t b)) head blocks key read.spelled,
+    )
 
 -- ---- what is spelled so is read
 
@@ -176,9 +177,10 @@ parts_numbers b os limit small below count e =
 
 -- the front and the back of what stands behind the numbers
 front_of : (b items : List ℕ) (m k : ℕ) → m + k ≡ 1008 → length items ≡ m → field 16 1008 b ≡ items ++ zeros k → (field 16 m b ≡ items) × (field (16 + m) k b ≡ zeros k)
-front_of b items m k sum size e =
-    (sym (field-field 0 m 16 1008 16 b refl (omega (arith, sum))) ∙ ap (take m) e ∙ take_at items (zeros k) m size,
-     sym (field-field m k 16 1008 (16 + m) b refl (omega (arith, sum))) ∙ ap (λ (x : List ℕ). take k (drop m x)) e ∙ ap (take k) (drop_at items (zeros k) m size) ∙ take_all k (zeros k) (omega (arith, length-zeros k)))
+front_of b items m k sum size e = (
+  sym (field-field 0 m 16 1008 16 b refl (omega (arith, sum))) ∙ ap (take m) e ∙ take_at items (zeros k) m size,
+  sym (field-field m k 16 1008 (16 + m) b refl (omega (arith, sum))) ∙ ap (λ (x : List ℕ). take k (drop m x)) e ∙ ap (take k) (drop_at items (zeros k) m size) ∙ take_all k (zeros k) (omega (arith, length-zeros k)),
+)
 
 format_spelled : (r : RootValue) (b : List ℕ) (t : Bool) → eqb r.format 1 ≡ t → IsRoot r → block_count b ≡ r.blocks → field 16 1008 b ≡ rest_bytes r.format r.parts r.first → IsFormatSpelled r b t
 format_spelled r b true e h blocks spelled =
@@ -187,7 +189,7 @@ format_spelled r b true e h blocks spelled =
     let size : length (flat_map entry_bytes r.first) ≡ 960 = length-entries r.first h.each ∙ ap (λ (n : ℕ). 16 * n) count in
     let both = front_of b (flat_map entry_bytes r.first) 960 48 refl size (spelled ∙ rest_of_one r.format r.parts r.first one) in
     let raws : raw_entries 60 b ≡ map raw_of r.first =
-        ap (λ (n : ℕ). raw_entries n b) (sym count) ∙ raws_again b r.first h.each (ap (λ (n : ℕ). field 16 (16 * n) b) count ∙ both.0) in
+    ap (λ (n : ℕ). raw_entries n b) (sym count) ∙ raws_again b r.first h.each (ap (λ (n : ℕ). field 16 (16 * n) b) count ∙ both.0) in
     let least : 2 ≤ r.blocks = h.sound.least in
     record {
       parts = sym (h.sound.no_parts one);
@@ -231,8 +233,8 @@ root_of-root_bytes b r h e =
     let rest = rest_bytes r.format r.parts r.first in
     let t = eqb r.format 1 in
     let cut = ap (fields 0 (4 ∷ 4 ∷ 8 ∷ 1008 ∷ 0 ∷ 0 ∷ 0 ∷ [])) (e ∙ padded head (big_endian w32 r.blocks) (big_endian w64 r.key) rest)
-        ∙ fields_cut [] head (big_endian w32 r.blocks) (big_endian w64 r.key) rest [] [] [] 0 4 4 8 1008 0 0 0 refl refl (length-big_endian w32 (2 ^ 32) wide32 r.blocks)
-            (length-big_endian w64 (2 ^ 64) wide64 r.key) (length-rest r t refl h) refl refl refl in
+    ∙ fields_cut [] head (big_endian w32 r.blocks) (big_endian w64 r.key) rest [] [] [] 0 4 4 8 1008 0 0 0 refl refl (length-big_endian w32 (2 ^ 32) wide32 r.blocks)
+    (length-big_endian w64 (2 ^ 64) wide64 r.key) (length-rest r t refl h) refl refl refl in
     let are = are_seven (field 0 4 b) (field 4 4 b) (field 8 8 b) (field 16 1008 b) [] [] [] head (big_endian w32 r.blocks) (big_endian w64 r.key) rest [] [] [] cut in
     let byte : (i : ℕ) → i < 4 → slice_index b i ≡ slice_index head i = λ i lt. byte_in_field b 0 4 i i (omega arith) lt ∙ ap (λ (x : List ℕ). slice_index x i) are.e1 in
     let most : r.blocks ≤ 65536 = h.sound.most in
@@ -256,7 +258,7 @@ root_of-root_bytes b r h e =
       two = λ other. spelled.two (sym test ∙ ne_eqb (slice_index b 2) 1 other);
     } in
     let value = same_root (slice_index b 2) r.format (block_count b) r.blocks (number_at w64 8 b) r.key (parts_if (eqb (slice_index b 2) 1) b) r.parts (first_if (eqb (slice_index b 2) 1) b) r.first
-        format blocks key (ap (λ (s : Bool). parts_if s b) test ∙ spelled.parts) (ap (λ (s : Bool). first_if s b) test ∙ spelled.first) in
+    format blocks key (ap (λ (s : Bool). parts_if s b) test ∙ spelled.parts) (ap (λ (s : Bool). first_if s b) test ∙ spelled.first) in
     ap (λ (o : Option Why). cause_or o (root_value b)) (root_causes-none b facts) ∙ ap (λ (q : RootValue). Ok q) value
 
 settled : (o : Option Why) (x y : RootValue) → cause_or o x ≡ Ok y → (o ≡ None) × (x ≡ y)

@@ -24,6 +24,7 @@ one_of_two n e = by (eqb n 1) refl
     second : (a : Bool) → a ≡ false → (not a && not (eqb n 2)) ≡ false → not (eqb n 2) ≡ false
     second true p q = absurd cc
     second false p q = q
+
     by : (b : Bool) → eqb n 1 ≡ b → (1 ≤ n) × (n ≤ 2)
     by true h = let is : n ≡ 1 = eqb-true n 1 h in (omega arith, omega arith)
     by false h = let is : n ≡ 2 = is_same n 2 (second (eqb n 1) h e) in (omega arith, omega arith)
@@ -105,9 +106,16 @@ format_none b false e facts = two_none b facts.plain (facts.two (λ same. differ
 pub root_causes-none : (b : List ℕ) → RootFacts b → first_cause (root_causes b) ≡ None
 unfolding head_causes
 root_causes-none b facts =
-    let heads = clear_none (head_causes b)
-        (passes_same (slice_index b 0) 165 facts.gate, (passes_same (slice_index b 1) 84 facts.kind, (format_passes (slice_index b 2) facts.first_format facts.last_format,
-        (both_false (ltb (block_count b) 2) (ltb 65536 (block_count b)) (passes_most (block_count b) 2 facts.least) (passes_most 65536 (block_count b) facts.most), tt)))) in
+    let heads = clear_none (head_causes b) (
+      passes_same (slice_index b 0) 165 facts.gate,
+      (
+        passes_same (slice_index b 1) 84 facts.kind,
+        (
+          format_passes (slice_index b 2) facts.first_format facts.last_format,
+          (both_false (ltb (block_count b) 2) (ltb 65536 (block_count b)) (passes_most (block_count b) 2 facts.least) (passes_most 65536 (block_count b) facts.most), tt),
+        ),
+      ),
+    ) in
     first_cause-append-none (head_causes b) (cond (eqb (slice_index b 2) 1) (one_causes b) (two_causes b)) heads ∙ format_none b (eqb (slice_index b 2) 1) refl facts
 
 pub PartFacts-none : (j : ℕ) (b : List ℕ) → first_cause (part_causes j b) ≡ None → PartFacts j b
@@ -128,6 +136,13 @@ PartFacts-none j b e =
 pub part_causes-none : (j : ℕ) (b : List ℕ) → PartFacts j b → first_cause (part_causes j b) ≡ None
 unfolding part_causes
 part_causes-none j b facts =
-    clear_none (part_causes j b)
-        (passes_same (slice_index b 0) 165 facts.gate, (passes_same (slice_index b 1) 69 facts.kind, (passes_same (slice_index b 2) j facts.index,
-        (facts.far, (facts.counted, (facts.stray, (facts.blank, (facts.used, tt))))))))
+    clear_none (part_causes j b) (
+      passes_same (slice_index b 0) 165 facts.gate,
+      (
+        passes_same (slice_index b 1) 69 facts.kind,
+        (
+          passes_same (slice_index b 2) j facts.index,
+          (facts.far, (facts.counted, (facts.stray, (facts.blank, (facts.used, tt))))),
+        ),
+      ),
+    )

@@ -102,7 +102,8 @@ pub fn is_any_far(raws: &[RawEntry], limit: u32) -> bool
 pub fn is_any_uncounted(raws: &[RawEntry]) -> bool
     ensures { result ≡ list_any is_uncounted raws.now }
 {
-    raws.iter().any(|raw| (raw.first != 0) & (raw.generation == 0))
+    raws.iter()
+        .any(|raw| (raw.first != 0) & (raw.generation == 0))
 }
 
 /// Whether the entry is not live, and has a secret.

@@ -6,7 +6,7 @@ ghost use Rattle.page_codec.specs.TableSpelling.{root_bytes, root_in, part_bytes
 
 use crate::Block;
 use crate::entry::TableEntry;
-use crate::root::{PARTS, TableRoot};
+use crate::root::{PARTS, TableRoot, no_parts};
 use crate::table_bytes::{put_head, put_part, put_rest};
 use crate::table_reading::PART_ENTRIES;
 use afs_base::BlockNo;
@@ -60,7 +60,7 @@ impl Table {
             format: root.format,
             blocks: root.blocks,
             key: root.key,
-            parts: root.parts,
+            parts: copy_of(&root.parts),
             entries,
         })
     }
@@ -98,6 +98,14 @@ impl Table {
     }
 }
 
+fn copy_of(parts: &[Option<BlockNo>; PARTS]) -> [Option<BlockNo>; PARTS]
+    ensures { result ≡ parts.now }
+{
+    let mut copy = no_parts();
+    copy.copy_from_slice(parts);
+    copy
+}
+
 /// The entries of the table of this block 0.
 fn root_table(alloc: Global, root: &TableRoot) -> Result<Vec<TableEntry>, AllocError>
     ensures { IfOk result (λ v. v.items ≡ (if nat_eq root.now.format 1 then root.now.first else no_entries 4032)) }
@@ -115,7 +123,13 @@ pub fn encode_table(table: &Table, into: &mut Block)
     ensures { into.new ≡ root_bytes (root_in table.now) }
 {
     let next = put_head(into, table.format, table.blocks, table.key);
-    put_rest(into, next, table.format, &table.parts, table.entries.as_slice());
+    put_rest(
+        into,
+        next,
+        table.format,
+        &table.parts,
+        table.entries.as_slice(),
+    );
 }
 
 /// Writes the one spelling of part j of a table of format 2 into all of the block; one of its files is there, or was.

@@ -58,7 +58,13 @@ fn put_parts(block: &mut Block, at: usize, parts: &[Option<BlockNo>]) -> usize
 }
 
 /// Writes what block 0 has behind its numbers, by the format, up to the end of the block.
-pub fn put_rest(block: &mut Block, at: usize, format: u8, parts: &[Option<BlockNo>], first: &[TableEntry])
+pub fn put_rest(
+    block: &mut Block,
+    at: usize,
+    format: u8,
+    parts: &[Option<BlockNo>],
+    first: &[TableEntry],
+)
     requires place { at ≡ 16 }
     requires sixty { format ≡ 1 → length first.now ≡ 60 }
     requires sixty_four { length parts.now ≡ 64 }

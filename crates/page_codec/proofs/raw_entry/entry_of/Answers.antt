@@ -12,4 +12,4 @@ invariant_of-result c =
     let raw : RawEntry = c.args.raw.now in
     let eight : length raw.secret ≡ 8 = search rules in
     subst (λ (first : Option ℕ). IsSoundEntry (record { first = first; generation = raw.generation; secret = raw.secret })) (sym c.block_or_none.ensures)
-        (IsSoundEntry-entry_value raw eight c.requires.counted c.requires.stray)
+    (IsSoundEntry-entry_value raw eight c.requires.counted c.requires.stray)

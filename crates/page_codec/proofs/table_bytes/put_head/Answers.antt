@@ -10,4 +10,4 @@ joined a b c head x y e f g = cc
 pub returns-clause-front : goal.returns-clause-front
 returns-clause-front c =
     joined (take c.put-next.result c.put-next.new.block) (take c.put_u32-next.result c.put_u32-next.new.block) (take c.put_u64.result c.put_u64.new.block)
-        (165 ∷ 84 ∷ c.args.format ∷ 0 ∷ []) (big_endian w32 c.args.blocks) (big_endian w64 c.args.key) c.put-next.ensures.front c.put_u32-next.ensures.front c.put_u64.ensures.front
+    (165 ∷ 84 ∷ c.args.format ∷ 0 ∷ []) (big_endian w32 c.args.blocks) (big_endian w64 c.args.key) c.put-next.ensures.front c.put_u32-next.ensures.front c.put_u64.ensures.front

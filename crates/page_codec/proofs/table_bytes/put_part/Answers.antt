@@ -15,4 +15,4 @@ returns-clause-bytes c =
     let whole : c.put_entries.result ≡ 1024 = omega arith in
     sym (take_all 1024 c.put_entries.new.block (omega arith)) ∙ ap (λ (n : ℕ). take n c.put_entries.new.block) (sym whole)
     ∙ joined (take c.put-next.result c.put-next.new.block) (take c.put_zeros-next.result c.put_zeros-next.new.block) (take c.put_entries.result c.put_entries.new.block)
-        (165 ∷ 69 ∷ c.args.j ∷ []) (zeros 13) (flat_map entry_bytes c.args.entries.now) c.put-next.ensures.front c.put_zeros-next.ensures.front c.put_entries.ensures.front
+    (165 ∷ 69 ∷ c.args.j ∷ []) (zeros 13) (flat_map entry_bytes c.args.entries.now) c.put-next.ensures.front c.put_zeros-next.ensures.front c.put_entries.ensures.front
