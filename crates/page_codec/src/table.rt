@@ -1,4 +1,4 @@
-ghost use Rattle.std.specs.Prelude.{◌≡◌, ℕ, ◌-◌, ◌*◌, ◌<◌, ◌≤◌, List, length, true, slice_get, slice_set, Some, if◌then◌else◌, nat_eq, IfOk, IfSome};
+ghost use Rattle.std.specs.Prelude.{◌≡◌, ℕ, ◌-◌, ◌*◌, ◌<◌, ◌≤◌, List, length, true, set, Some, if◌then◌else◌, nat_eq, IfOk, IfSome};
 ghost use Rattle.std.specs.List.{list_any};
 ghost use Rattle.page_codec.specs.Blank.{no_entries};
 ghost use Rattle.page_codec.specs.Bounds.{IsPart, IsPartBelow, IsFirstBelow, has_generation};
@@ -90,6 +90,27 @@ impl Table {
         self.entries.as_slice()
     }
 
+    /// Sets the entry of an object, counted from 1; in format 1 its first block is one of the store's.
+    pub fn set_entry(&mut self, object: usize, entry: TableEntry)
+        requires low { 1 ≤ object }
+        requires high { object ≤ length self.old.entries }
+        requires near { self.old.format ≡ 1 → IsFirstBelow self.old.blocks entry }
+        ensures { self.new ≡ record self.old { entries = set self.old.entries (object - 1) entry } }
+    {
+        self.entries[object - 1] = entry;
+    }
+
+    /// Sets the block of part j in format 2: a block of the store that is not block 0.
+    pub fn set_part(&mut self, j: usize, part: BlockNo)
+        requires index { j < 64 }
+        requires two { self.old.format ≡ 2 }
+        requires named { 1 ≤ part }
+        requires near { part < self.old.blocks }
+        ensures { self.new ≡ record self.old { parts = set self.old.parts j (Some part) } }
+    {
+        self.parts[j] = Some(part);
+    }
+
     /// The blocks of the parts.
     pub fn parts(&self) -> &[Option<BlockNo>]
         ensures { result.now ≡ self.now.parts }
@@ -108,7 +129,8 @@ fn copy_of(parts: &[Option<BlockNo>; PARTS]) -> [Option<BlockNo>; PARTS]
 
 /// The entries of the table of this block 0.
 fn root_table(alloc: Global, root: &TableRoot) -> Result<Vec<TableEntry>, AllocError>
-    ensures { IfOk result (λ v. v.items ≡ (if nat_eq root.now.format 1 then root.now.first else no_entries 4032)) }
+    ensures items { IfOk result (λ v. v.items ≡ (if nat_eq root.now.format 1 then root.now.first else no_entries 4032)) }
+    ensures sixty { IfOk result (λ v. root.now.format ≡ 1 → length v.items ≡ 60) }
 {
     if root.format == 1 {
         Vec::from_slice(alloc, &root.first)
