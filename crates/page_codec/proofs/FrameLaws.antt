@@ -161,7 +161,7 @@ pub record IsFramed (b : List ℕ) (kind code : ℕ) (p : PageValue) (middle : L
 length-data : (bytes : List ℕ) → length bytes ≤ 800 → length (data_bytes bytes) ≡ 800
 length-data bytes h = omega (arith, length-append bytes (zeros (800 - length bytes)), length-zeros (800 - length bytes))
 
-length-slots : (p : PageValue) → IsFrame p → length (flat_map reference_bytes p.refs) ≡ 64
+pub length-slots : (p : PageValue) → IsFrame p → length (flat_map reference_bytes p.refs) ≡ 64
 length-slots p h =
     let sixteen : length p.refs ≡ 16 = h.sixteen in
     length-flat_map-spell reference_bytes 4 (λ r. length-big_endian w32 (2 ^ 32) wide32 (reference_number r)) p.refs ∙ omega (arith, sixteen)

@@ -15,3 +15,4 @@ pub mod EntryLaws
 pub mod TableFactLaws
 pub mod PartLaws
 pub mod RootLaws
+pub mod VersionBytes
