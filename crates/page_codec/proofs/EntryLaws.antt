@@ -1,10 +1,10 @@
 -- Entries of a table as bytes.
-use Rattle.std.proofs.Common.{◌≡◌, ℕ, zero, suc, ◌+◌, ◌-◌, ◌*◌, ◌^◌, ◌<◌, ◌≤◌, Bool, true, false, not, ◌||◌, ◌&&◌, cond, eqb, ltb, leb, List, [], ◌∷◌, ◌++◌, length, take, drop, map, get_or, replicate, refl, sym, ap, subst, ◌∙◌, append_assoc, arith}
+use Rattle.std.proofs.Common.{◌≡◌, ℕ, zero, suc, ◌^◌, ◌<◌, ◌≤◌, Bool, true, false, not, ◌||◌, ◌&&◌, cond, eqb, leb, List, [], ◌∷◌, ◌++◌, length, take, drop, map, get_or, replicate, refl, sym, ap, ◌∙◌, append_assoc, arith}
 use Rattle.std.specs.Prelude.{Option, Some, None, IfSome, IfNone}
 use Rattle.std.specs.List.{list_any, list_all, flat_map, AllByRecursion}
 use Rattle.std.specs.Int.{w32}
-use Rattle.std.proofs.lemmas.Bool.{eqb-true, eqb-false, ne_eqb, leb-false}
-use Rattle.std.proofs.lemmas.List.{take_all, take_at, drop_at, drop-drop, length-append, length-map, length-replicate}
+use Rattle.std.proofs.lemmas.Bool.{eqb-true, eqb-false, leb-false}
+use Rattle.std.proofs.lemmas.List.{take_all, take_at, drop_at, length-append, length-replicate}
 use Rattle.page_codec.specs.declared.raw_entry.RawEntry.{RawEntry}
 use Rattle.page_codec.specs.Numbers.{IsBytes, big_endian, field, number_at, zeros, or_zero, or_none}
 use Rattle.page_codec.specs.Values.{EntryValue}

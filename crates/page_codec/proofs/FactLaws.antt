@@ -1,5 +1,5 @@
 -- The facts of a block to which no cause applies.
-use Rattle.std.proofs.Common.{◌≡◌, ℕ, ◌+◌, ◌*◌, ◌^◌, ◌<◌, ◌≤◌, Bool, true, false, not, ◌||◌, ◌&&◌, eqb, ltb, leb, List, refl, arith, sym}
+use Rattle.std.proofs.Common.{◌≡◌, ℕ, ◌+◌, ◌*◌, ◌^◌, ◌≤◌, Bool, true, false, not, ◌||◌, ◌&&◌, eqb, ltb, leb, List, refl, arith}
 use Rattle.std.specs.Prelude.{None, slice_index}
 use Rattle.std.specs.List.{list_any}
 use Rattle.std.specs.Int.{w32, w64}
@@ -7,7 +7,7 @@ use Rattle.std.proofs.lemmas.Bool.{eqb-true, eqb-false, ltb-false, leb-false}
 use Rattle.page_codec.specs.Numbers.{number_at}
 use Rattle.page_codec.specs.Reading.{slots, data_len, members_value}
 use Rattle.page_codec.specs.Causes.{first_cause, page_causes, version_causes, is_no_code, is_dangling, is_nonzero, has_other, has_other_past, is_bad_member}
-use Rattle.page_codec.specs.Facts.{FrameFacts, PageFacts, VersionFacts}
+use Rattle.page_codec.specs.Facts.{PageFacts, VersionFacts}
 use Rattle.page_codec.proofs.CauseLaws.{none_clear, neither}
 
 -- a test that two numbers differ is false only where they are equal

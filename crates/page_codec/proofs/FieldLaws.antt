@@ -1,5 +1,5 @@
 -- Runs of bytes within runs of bytes.
-use Rattle.std.proofs.Common.{◌≡◌, ℕ, zero, suc, ◌+◌, ◌-◌, ◌≤◌, List, ◌++◌, length, take, drop, refl, ap, sym, ◌∙◌, subst, arith}
+use Rattle.std.proofs.Common.{◌≡◌, ℕ, ◌+◌, ◌-◌, ◌≤◌, List, length, take, drop, ap, ◌∙◌, subst, arith}
 use Rattle.std.specs.Int.{Width, byte_len, from_be_bytes}
 use Rattle.std.proofs.lemmas.List.{drop-take, take-take, drop-drop, length-take, length-drop}
 use Rattle.page_codec.specs.Numbers.{field, number_at}

@@ -1,20 +1,20 @@
 -- What both kinds of page have in common: what is read is spelled so, and what is spelled so is read.
-use Rattle.std.proofs.Common.{◌≡◌, ℕ, zero, suc, ◌+◌, ◌-◌, ◌*◌, ◌^◌, ◌<◌, ◌≤◌, Bool, true, false, ◌||◌, List, [], ◌∷◌, ◌++◌, length, get_or, take, drop, map, refl, sym, ap, subst, ◌∙◌, append_assoc, arith}
-use Rattle.std.specs.Prelude.{slice_index, slice_range}
+use Rattle.std.proofs.Common.{◌≡◌, ℕ, ◌+◌, ◌-◌, ◌^◌, ◌<◌, ◌≤◌, false, List, [], ◌∷◌, ◌++◌, length, take, drop, map, refl, sym, ap, ◌∙◌, arith}
+use Rattle.std.specs.Prelude.{slice_index}
 use Rattle.std.specs.List.{list_any, flat_map, concat, AllByRecursion}
 use Rattle.std.specs.Int.{w16, w32}
 use Rattle.std.proofs.lemmas.List.{append-nil, take_at, drop_at, take_all, take-take, get_or-take, get_or-drop, length-append, length-map}
 use Rattle.page_codec.specs.Numbers.{IsBytes, big_endian, field, number_at, zeros, pieces}
 use Rattle.page_codec.specs.Values.{ReferenceValue, PageValue}
-use Rattle.page_codec.specs.Bounds.{IsReference, IsSoundPage, IsFrame}
+use Rattle.page_codec.specs.Bounds.{IsReference, IsFrame}
 use Rattle.page_codec.specs.Spelling.{reference_number, reference_bytes, data_bytes, head_bytes, frame_bytes}
 use Rattle.page_codec.specs.Reading.{slots, reference, data_len, frame_value}
-use Rattle.page_codec.specs.Causes.{is_no_code, is_dangling, is_nonzero, has_other, has_other_past}
+use Rattle.page_codec.specs.Causes.{is_no_code, is_dangling, is_nonzero, has_other}
 use Rattle.page_codec.specs.Facts.{FrameFacts}
 use Rattle.page_codec.proofs.CauseLaws.{neither, both_false}
 use Rattle.page_codec.proofs.FieldLaws.{field-field, length-field}
 use Rattle.page_codec.proofs.ByteLaws.{IsBytes-field, wide16, wide32, length-big_endian, big_endian-number_at, number_at-lt, number_at-big_endian, length-zeros, zeros_field, zeros_pass, field-split, fields, concat-fields, fields-concat, joined7}
-use Rattle.page_codec.proofs.PieceLaws.{IsSpelled, AreRead, pieces_read, pieces_again, length-flat_map-spell}
+use Rattle.page_codec.proofs.PieceLaws.{IsSpelled, pieces_read, pieces_again, length-flat_map-spell}
 use Rattle.page_codec.proofs.SlotLaws.{IsSlot, slots_are, references_spelled, references_back, unused_references, numbers_are_slots, numbers_again, slots_pass_codes, slots_pass_names, numbers_unused}
 
 -- a block: so many bytes

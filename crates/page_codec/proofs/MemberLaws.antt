@@ -1,10 +1,10 @@
 -- Members as bytes.
-use Rattle.std.proofs.Common.{◌≡◌, ℕ, zero, suc, ◌+◌, ◌-◌, ◌*◌, ◌^◌, ◌<◌, ◌≤◌, Bool, true, false, ◌||◌, eqb, leb, List, [], ◌∷◌, ◌++◌, length, take, drop, map, refl, sym, ap, subst, ◌∙◌, arith}
-use Rattle.std.specs.List.{list_any, flat_map, AllByRecursion}
+use Rattle.std.proofs.Common.{◌≡◌, ℕ, ◌^◌, ◌<◌, false, ◌||◌, eqb, leb, List, [], ◌∷◌, ◌++◌, length, take, drop, refl, sym, ap, ◌∙◌, arith}
+use Rattle.std.specs.List.{list_any, AllByRecursion}
 use Rattle.std.specs.Int.{w32}
 use Rattle.std.proofs.lemmas.Bool.{leb-false}
 use Rattle.std.proofs.lemmas.List.{take_all, take_at, drop_at, length-append}
-use Rattle.page_codec.specs.Numbers.{IsBytes, big_endian, field, number_at, zeros, pieces}
+use Rattle.page_codec.specs.Numbers.{big_endian, field, number_at}
 use Rattle.page_codec.specs.Values.{MemberValue}
 use Rattle.page_codec.specs.Bounds.{IsMember}
 use Rattle.page_codec.specs.Spelling.{member_bytes}
@@ -12,7 +12,6 @@ use Rattle.page_codec.specs.Reading.{member_value}
 use Rattle.page_codec.specs.Causes.{is_bad_member}
 use Rattle.page_codec.proofs.CauseLaws.{neither, both_false, passes_positive, passes_below}
 use Rattle.page_codec.proofs.FactLaws.{is_positive}
-use Rattle.page_codec.proofs.FieldLaws.{length-field}
 use Rattle.page_codec.proofs.ByteLaws.{wide32, length-big_endian, big_endian-number_at, number_at-lt, number_at-big_endian, field-split}
 use Rattle.page_codec.proofs.PieceLaws.{IsSpelled}
 

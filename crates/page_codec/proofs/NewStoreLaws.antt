@@ -1,9 +1,8 @@
 -- The blocks that a new store names are below its number of blocks.
-use Rattle.std.proofs.Common.{◌≡◌, ℕ, zero, suc, ◌+◌, ◌<◌, ◌≤◌, Bool, true, false, cond, leb, List, map, replicate, refl, arith}
-use Rattle.std.specs.Prelude.{Option, Some, None}
+use Rattle.std.proofs.Common.{◌≡◌, ℕ, zero, suc, ◌+◌, ◌<◌, ◌≤◌, Bool, true, false, cond, leb, map, replicate, refl, arith}
+use Rattle.std.specs.Prelude.{Some, None}
 use Rattle.std.specs.List.{range_with_len, AllByRecursion}
 use Rattle.std.proofs.lemmas.Bool.{leb-true}
-use Rattle.page_codec.specs.Values.{EntryValue}
 use Rattle.page_codec.specs.Blank.{no_entry, no_parts}
 use Rattle.page_codec.specs.Bounds.{IsFirstBelow, IsPartBelow}
 use Rattle.page_codec.specs.NewStore.{new_entry, new_entries, secret_of}

@@ -1,17 +1,17 @@
 -- A page that is read is spelled so, and a page that is spelled is read.
-use Rattle.std.proofs.Common.{◌≡◌, ℕ, ◌+◌, ◌≤◌, ◌<◌, Bool, true, false, not, ◌||◌, ◌&&◌, eqb, ltb, List, length, refl, sym, ap, subst, ◌∙◌, arith}
+use Rattle.std.proofs.Common.{◌≡◌, ℕ, ◌≤◌, not, ◌&&◌, eqb, ltb, List, length, refl, sym, ap, subst, ◌∙◌, arith}
 use Rattle.std.specs.Prelude.{Option, Some, None, Result, Ok, Err, IfOk, slice_index}
 use Rattle.std.specs.List.{list_any}
 use Rattle.std.proofs.lemmas.Bool.{eqb-true}
 use Rattle.page_codec.specs.declared.why.Why.{Why}
 use Rattle.page_codec.specs.declared.why.BadPage.{BadPage}
-use Rattle.page_codec.specs.Numbers.{IsBytes, field, zeros}
+use Rattle.page_codec.specs.Numbers.{field, zeros}
 use Rattle.page_codec.specs.Values.{PageValue}
 use Rattle.page_codec.specs.Bounds.{IsPage}
 use Rattle.page_codec.specs.Spelling.{frame_bytes, page_bytes}
 use Rattle.page_codec.specs.Reading.{slots, data_len, frame_value}
-use Rattle.page_codec.specs.Causes.{Reads, cause_or, first_cause, page_causes, page_of, is_no_code, is_dangling, is_nonzero, has_bad_reference, has_other, has_other_past}
-use Rattle.page_codec.specs.Facts.{FrameFacts, PageFacts}
+use Rattle.page_codec.specs.Causes.{Reads, cause_or, first_cause, page_causes, page_of, is_no_code, is_dangling, is_nonzero, has_other, has_other_past}
+use Rattle.page_codec.specs.Facts.{PageFacts}
 use Rattle.page_codec.proofs.CauseLaws.{clear_none, both_false, passes_same, passes_positive, passes_most, passes_if}
 use Rattle.page_codec.proofs.FactLaws.{PageFacts-none}
 use Rattle.page_codec.proofs.ByteLaws.{zeros_field, zeros_pass, length-zeros}

@@ -1,12 +1,11 @@
 -- A part that is read is spelled so, and a part that is spelled is read.
-use Rattle.std.proofs.Common.{◌≡◌, ℕ, zero, suc, ◌+◌, ◌-◌, ◌*◌, ◌^◌, ◌≤◌, ◌<◌, Bool, true, false, not, List, [], ◌∷◌, ◌++◌, length, take, drop, map, refl, sym, ap, subst, ◌∙◌, arith}
+use Rattle.std.proofs.Common.{◌≡◌, ℕ, ◌*◌, ◌^◌, ◌≤◌, ◌<◌, Bool, true, false, not, List, [], ◌∷◌, ◌++◌, length, take, drop, map, refl, sym, ap, subst, ◌∙◌, arith}
 use Rattle.std.specs.Prelude.{Option, Some, None, Result, Ok, Err, IfOk, slice_index}
 use Rattle.std.specs.List.{list_any, list_all, flat_map, AllByRecursion}
 use Rattle.std.proofs.lemmas.List.{append-nil, take_all, take-append-drop, length-map, length-drop}
 use Rattle.page_codec.specs.declared.why.Why.{Why}
 use Rattle.page_codec.specs.declared.why.BadPage.{BadPage}
-use Rattle.page_codec.specs.declared.raw_entry.RawEntry.{RawEntry}
-use Rattle.page_codec.specs.Numbers.{IsBytes, field, zeros, pieces}
+use Rattle.page_codec.specs.Numbers.{field, zeros, pieces}
 use Rattle.page_codec.specs.Values.{EntryValue}
 use Rattle.page_codec.specs.Bounds.{IsEntry, IsPart, has_generation}
 use Rattle.page_codec.specs.TableSpelling.{entry_bytes, part_bytes}
@@ -15,7 +14,7 @@ use Rattle.page_codec.specs.TableReading.{raw_value, raw_entries, entry_value, i
 use Rattle.page_codec.specs.TableFacts.{PartFacts}
 use Rattle.page_codec.proofs.ByteLaws.{IsBytes-drop, zeros_field, zeros_pass, length-zeros, field-split, fields}
 use Rattle.page_codec.proofs.PieceLaws.{AreRead, pieces_read, pieces_again, length-flat_map-good}
-use Rattle.page_codec.proofs.EntryLaws.{raw_bytes, HasRoom, raw_law, AreEntries, entries_read, raw_of, raws_room, entries_bytes, entries_again, raws_near, raws_counted, raws_straight, used_is, entries_below}
+use Rattle.page_codec.proofs.EntryLaws.{raw_bytes, HasRoom, raw_law, entries_read, raw_of, raws_room, entries_bytes, entries_again, raws_near, raws_counted, raws_straight, used_is, entries_below}
 use Rattle.page_codec.proofs.FrameLaws.{IsBlock, fields_cut, are_seven, byte_in_field}
 use Rattle.page_codec.proofs.TableFactLaws.{PartFacts-none, part_causes-none}
 

@@ -1,8 +1,7 @@
 -- A list cut into pieces of one length.
-use Rattle.std.proofs.Common.{◌≡◌, ℕ, zero, suc, ◌+◌, ◌*◌, ◌≤◌, List, [], ◌∷◌, ◌++◌, length, take, drop, map, get_or, Bool, true, false, ◌||◌, refl, ap, sym, ◌∙◌, subst, arith, add-one, zero-add, ◌<◌, append_assoc}
-use Rattle.std.specs.Prelude.{Option}
+use Rattle.std.proofs.Common.{◌≡◌, ℕ, zero, suc, ◌+◌, ◌*◌, ◌≤◌, List, [], ◌∷◌, ◌++◌, length, take, drop, map, Bool, false, refl, ap, sym, ◌∙◌, arith, add-one, zero-add, ◌<◌, append_assoc}
 use Rattle.std.specs.List.{list_any, flat_map, AllByRecursion}
-use Rattle.std.proofs.lemmas.List.{drop-drop, take_at, drop_at, length-take, length-drop, take-append-drop, nil_from_length, length-append}
+use Rattle.std.proofs.lemmas.List.{drop-drop, take_at, drop_at, length-take, length-drop, length-append}
 use Rattle.std.proofs.lemmas.List.Concat.{flat_map-cons}
 use Rattle.page_codec.specs.Numbers.{IsBytes, field, pieces}
 use Rattle.page_codec.proofs.CauseLaws.{neither}

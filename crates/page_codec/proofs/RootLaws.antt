@@ -1,26 +1,26 @@
 -- A block 0 that is read is spelled so, and one that is spelled is read.
-use Rattle.std.proofs.Common.{◌≡◌, ℕ, zero, suc, ◌+◌, ◌-◌, ◌*◌, ◌^◌, ◌≤◌, ◌<◌, Bool, true, false, not, cond, eqb, leb, List, [], ◌∷◌, ◌++◌, length, take, drop, map, refl, sym, ap, subst, ◌∙◌, arith}
+use Rattle.std.proofs.Common.{◌≡◌, ℕ, ◌+◌, ◌*◌, ◌^◌, ◌≤◌, ◌<◌, Bool, true, false, cond, eqb, leb, List, [], ◌∷◌, ◌++◌, length, take, drop, map, refl, sym, ap, subst, ◌∙◌, arith}
 use Rattle.std.specs.Prelude.{Option, Some, None, Result, Ok, Err, IfOk, slice_index}
-use Rattle.std.specs.List.{list_any, list_all, flat_map, AllByRecursion}
+use Rattle.std.specs.List.{list_any, flat_map, AllByRecursion}
 use Rattle.std.specs.Int.{w32, w64}
 use Rattle.std.proofs.lemmas.Bool.{eqb-true, ne_eqb, eqb-false}
-use Rattle.std.proofs.lemmas.List.{append-nil, take_all, take_at, drop_at, take-append-drop, length-map, length-drop, length-append, length-replicate}
+use Rattle.std.proofs.lemmas.List.{append-nil, take_all, take_at, drop_at, length-map, length-append, length-replicate}
 use Rattle.page_codec.specs.declared.why.Why.{Why}
 use Rattle.page_codec.specs.declared.why.BadPage.{BadPage}
-use Rattle.page_codec.specs.Numbers.{IsBytes, big_endian, field, number_at, zeros, pieces, or_zero, or_none}
+use Rattle.page_codec.specs.Numbers.{big_endian, field, number_at, zeros, pieces, or_zero, or_none}
 use Rattle.page_codec.specs.Values.{EntryValue, RootValue}
 use Rattle.page_codec.specs.Blank.{no_parts, no_entries}
-use Rattle.page_codec.specs.Bounds.{IsEntry, IsFirstBelow, IsPartBelow, IsSoundRoot, IsRoot}
+use Rattle.page_codec.specs.Bounds.{IsEntry, IsFirstBelow, IsPartBelow, IsRoot}
 use Rattle.page_codec.specs.TableSpelling.{entry_bytes, part_number_bytes, rest_bytes, root_bytes}
-use Rattle.page_codec.specs.Causes.{Reads, cause_or, first_cause, is_nonzero, has_other}
+use Rattle.page_codec.specs.Causes.{Reads, cause_or, first_cause, is_nonzero}
 use Rattle.page_codec.specs.TableReading.{raw_entries, entry_value, is_far, is_uncounted, is_stray, block_count, part_numbers, root_causes, root_value, root_of}
 use Rattle.page_codec.specs.TableFacts.{OneFacts, TwoFacts, RootFacts}
 use Rattle.page_codec.proofs.ByteLaws.{IsBytes-field, wide32, wide64, length-big_endian, big_endian-number_at, number_at-lt, number_at-big_endian, zeros_field, zeros_pass, length-zeros, field-split, fields}
 use Rattle.page_codec.proofs.FieldLaws.{field-field, length-field}
-use Rattle.page_codec.proofs.PieceLaws.{AreRead, pieces_read, pieces_again, length-flat_map-spell}
+use Rattle.page_codec.proofs.PieceLaws.{pieces_read, pieces_again, length-flat_map-spell}
 use Rattle.page_codec.proofs.NewStoreLaws.{IsPartBelow-no_parts}
 use Rattle.page_codec.proofs.TableLaws.{rest_of_one, rest_of_two}
-use Rattle.page_codec.proofs.EntryLaws.{raw_bytes, HasRoom, entries_read, firsts_below, raw_of, entries_again, raws_near, raws_counted, raws_straight, parts_near, parts_pass, parts_again, parts_small, parts_bytes, parts_back, IsFirstBelow-no_entries, length-no_entries, IsEntry-no_entries}
+use Rattle.page_codec.proofs.EntryLaws.{entries_read, firsts_below, raw_of, entries_again, raws_near, raws_counted, raws_straight, parts_near, parts_pass, parts_again, parts_small, parts_bytes, parts_back, IsFirstBelow-no_entries, length-no_entries, IsEntry-no_entries}
 use Rattle.page_codec.proofs.FrameLaws.{IsBlock, fields_cut, are_seven, byte_in_field, four_bytes, numbers_law}
 use Rattle.page_codec.proofs.PartLaws.{raws_read, raws_again, length-entries}
 use Rattle.page_codec.proofs.TableFactLaws.{RootFacts-none, root_causes-none}

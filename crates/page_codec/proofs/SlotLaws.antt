@@ -1,15 +1,14 @@
 -- Slots as numbers and as references.
-use Rattle.std.proofs.Common.{◌≡◌, ℕ, zero, suc, ◌+◌, ◌-◌, ◌*◌, ◌/◌, ◌%◌, ◌^◌, ◌<◌, ◌≤◌, Bool, true, false, not, ◌&&◌, ◌||◌, eqb, ltb, cond, List, [], ◌∷◌, ◌++◌, length, take, drop, map, refl, sym, ap, subst, ◌∙◌, append_assoc, arith}
-use Rattle.std.specs.Prelude.{Option, Some, None, IfSome, IfNone, IsTrue, is_some}
-use Rattle.std.specs.List.{list_any, flat_map, AllByRecursion}
-use Rattle.std.specs.Int.{w32}
+use Rattle.std.proofs.Common.{◌≡◌, ℕ, ◌+◌, ◌*◌, ◌/◌, ◌%◌, ◌^◌, ◌<◌, ◌≤◌, Bool, true, false, not, ◌&&◌, eqb, cond, List, [], ◌∷◌, map, refl, sym, ap, subst, ◌∙◌, arith}
+use Rattle.std.specs.Prelude.{Option, Some, None, IfSome, IfNone, is_some}
+use Rattle.std.specs.List.{list_any, AllByRecursion}
 use Rattle.std.proofs.lemmas.Bool.{ltb-false, le-ltb, eqb-true, ne_eqb, eqb-false}
-use Rattle.ref_flags.specs.Flagged.{Flagged, is_lawful, no_flags}
+use Rattle.ref_flags.specs.Flagged.{Flagged}
 use Rattle.ref_flags.specs.Codes.{code_of, flags_of}
 use Rattle.ref_flags.proofs.CodeLaws.{flags_of-code_of, code_of-le, code_of-flags_of, is_lawful-flags_of}
 use Rattle.page_codec.specs.Numbers.{or_zero, or_none}
 use Rattle.page_codec.specs.Values.{ReferenceValue}
-use Rattle.page_codec.specs.Bounds.{IsNamed, IsSoundReference, IsReference, is_used}
+use Rattle.page_codec.specs.Bounds.{IsNamed, IsReference, is_used}
 use Rattle.page_codec.specs.Spelling.{reference_number}
 use Rattle.page_codec.specs.Reading.{reference}
 use Rattle.page_codec.specs.Causes.{is_no_code, is_dangling, is_nonzero}

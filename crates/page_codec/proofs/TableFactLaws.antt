@@ -1,10 +1,9 @@
 -- The facts of block 0, or of a part, to which no cause applies.
-use Rattle.std.proofs.Common.{◌≡◌, ℕ, ◌+◌, ◌*◌, ◌^◌, ◌<◌, ◌≤◌, Bool, true, false, not, ◌||◌, ◌&&◌, cond, eqb, ltb, leb, List, [], ◌∷◌, ◌++◌, refl, arith, sym, ap, ◌∙◌}
-use Rattle.std.specs.Prelude.{Option, None, slice_index}
-use Rattle.std.specs.List.{list_any, list_all}
-use Rattle.std.proofs.lemmas.Bool.{eqb-true, ltb-false, leb-false, ne_eqb}
+use Rattle.std.proofs.Common.{◌≡◌, ℕ, ◌≤◌, Bool, true, false, not, ◌&&◌, cond, eqb, ltb, List, [], ◌∷◌, ◌++◌, refl, arith, sym, ap, ◌∙◌}
+use Rattle.std.specs.Prelude.{None, slice_index}
+use Rattle.std.proofs.lemmas.Bool.{eqb-true, ltb-false, ne_eqb}
 use Rattle.page_codec.specs.Causes.{Cause, first_cause, has_other}
-use Rattle.page_codec.specs.TableReading.{raw_entries, is_far, is_uncounted, is_stray, is_unused, block_count, part_numbers, head_causes, one_causes, two_causes, root_causes, part_causes}
+use Rattle.page_codec.specs.TableReading.{block_count, head_causes, one_causes, two_causes, root_causes, part_causes}
 use Rattle.page_codec.specs.TableFacts.{OneFacts, TwoFacts, RootFacts, PartFacts}
 use Rattle.page_codec.proofs.CauseLaws.{Clear, none_clear, clear_none, neither, both_false, passes_same, passes_most, passes_if, first_cause-append-none}
 use Rattle.page_codec.proofs.FactLaws.{is_same}

@@ -1,5 +1,5 @@
 -- What block 0 has behind its numbers, by the format.
-use Rattle.std.proofs.Common.{◌≡◌, ℕ, ◌+◌, ◌*◌, List, ◌++◌, take, length, refl, ap, subst, sym, arith, append_assoc, ◌∙◌, Bool, true, false, cond, eqb}
+use Rattle.std.proofs.Common.{◌≡◌, ℕ, List, ◌++◌, take, refl, ap, sym, append_assoc, ◌∙◌, Bool, true, false, cond, eqb}
 use Rattle.std.specs.Prelude.{Option}
 use Rattle.std.specs.List.{flat_map}
 use Rattle.std.proofs.lemmas.Bool.{ne_eqb, eqb-false}

@@ -1,5 +1,5 @@
 -- The bytes of a version page that layers above speak of: their number, the first one, and those of the commit reference.
-use Rattle.std.proofs.Common.{◌≡◌, ℕ, ◌+◌, ◌-◌, ◌*◌, ◌^◌, List, [], ◌∷◌, ◌++◌, length, take, drop, refl, sym, ap, ◌∙◌, append_assoc, arith}
+use Rattle.std.proofs.Common.{◌≡◌, ℕ, ◌-◌, ◌*◌, ◌^◌, List, [], ◌∷◌, ◌++◌, length, take, drop, refl, sym, ap, ◌∙◌, append_assoc, arith}
 use Rattle.std.specs.Prelude.{Option, slice_index}
 use Rattle.std.specs.List.{flat_map}
 use Rattle.std.specs.Int.{w16, w32, w64}
@@ -7,7 +7,7 @@ use Rattle.std.proofs.lemmas.List.{take_at, drop_at, length-append}
 use Rattle.ref_flags.specs.Codes.{code_of}
 use Rattle.page_codec.specs.Numbers.{big_endian, field, zeros, or_zero}
 use Rattle.page_codec.specs.Values.{VersionValue}
-use Rattle.page_codec.specs.Bounds.{IsVersion, IsFrame}
+use Rattle.page_codec.specs.Bounds.{IsFrame}
 use Rattle.page_codec.specs.Spelling.{head_bytes, reference_bytes, data_bytes, member_bytes, frame_bytes, version_middle, version_bytes}
 use Rattle.page_codec.proofs.ByteLaws.{wide16, wide32, wide64, length-big_endian}
 use Rattle.page_codec.proofs.FrameLaws.{length-slots}
@@ -35,14 +35,14 @@ pub version_bytes-split : (v : VersionValue) → version_bytes v ≡ version_fro
 unfolding version_bytes frame_bytes version_middle version_front version_back
 version_bytes-split v =
     regroup (head_bytes 86 v.page.level (code_of v.root)) (flat_map reference_bytes v.page.refs) (big_endian w16 (length v.page.bytes)) (big_endian w32 v.object) (big_endian w64 v.serial)
-        (big_endian w32 (or_zero v.commit)) (big_endian w32 (or_zero v.base)) (length v.members ∷ []) (flat_map member_bytes v.members) (zeros (128 - 8 * length v.members))
-        (data_bytes v.page.bytes) (big_endian w16 v.page.modified) (zeros 3)
+    (big_endian w32 (or_zero v.commit)) (big_endian w32 (or_zero v.base)) (length v.members ∷ []) (flat_map member_bytes v.members) (zeros (128 - 8 * length v.members))
+    (data_bytes v.page.bytes) (big_endian w16 v.page.modified) (zeros 3)
 
 pub length-version_front : (v : VersionValue) → IsFrame v.page → length (version_front v) ≡ 82
 unfolding version_front
 length-version_front v h =
     sums (head_bytes 86 v.page.level (code_of v.root)) (flat_map reference_bytes v.page.refs) (big_endian w16 (length v.page.bytes)) (big_endian w32 v.object) (big_endian w64 v.serial)
-        refl (length-slots v.page h) (length-big_endian w16 (2 ^ 16) wide16 (length v.page.bytes)) (length-big_endian w32 (2 ^ 32) wide32 v.object) (length-big_endian w64 (2 ^ 64) wide64 v.serial)
+    refl (length-slots v.page h) (length-big_endian w16 (2 ^ 16) wide16 (length v.page.bytes)) (length-big_endian w32 (2 ^ 32) wide32 v.object) (length-big_endian w64 (2 ^ 64) wide64 v.serial)
   where
     sums : (a b c d e : List ℕ) → length a ≡ 4 → length b ≡ 64 → length c ≡ 2 → length d ≡ 4 → length e ≡ 8 → length (a ++ b ++ c ++ d ++ e) ≡ 82
     sums a b c d e ha hb hc hd he = simp length-append (omega arith)

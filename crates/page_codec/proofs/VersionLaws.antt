@@ -1,29 +1,29 @@
 -- A version page that is read is spelled so, and a version page that is spelled is read.
-use Rattle.std.proofs.Common.{◌≡◌, ℕ, zero, suc, ◌+◌, ◌-◌, ◌*◌, ◌^◌, ◌≤◌, ◌<◌, Bool, true, false, not, ◌||◌, ◌&&◌, eqb, ltb, leb, List, [], ◌∷◌, ◌++◌, length, take, drop, map, refl, sym, ap, subst, ◌∙◌, arith}
-use Rattle.std.specs.Prelude.{Option, Some, None, Result, Ok, Err, IfOk, IfSome, IsTrue, slice_index}
-use Rattle.std.specs.List.{list_any, flat_map, concat, AllByRecursion}
-use Rattle.std.specs.Int.{w16, w32, w64}
-use Rattle.std.proofs.lemmas.List.{take_all, take_at, drop_at, drop-drop, take-append-drop, length-append, length-drop, get_or-take, get_or-drop}
-use Rattle.ref_flags.specs.Flagged.{Flagged, is_lawful}
+use Rattle.std.proofs.Common.{◌≡◌, ℕ, zero, suc, ◌+◌, ◌-◌, ◌*◌, ◌^◌, ◌≤◌, ◌<◌, false, ◌||◌, ltb, leb, List, [], ◌∷◌, ◌++◌, length, take, drop, map, refl, sym, ap, subst, ◌∙◌, arith}
+use Rattle.std.specs.Prelude.{Option, Some, None, Result, Ok, Err, IfOk, slice_index}
+use Rattle.std.specs.List.{list_any, flat_map}
+use Rattle.std.specs.Int.{w32, w64}
+use Rattle.std.proofs.lemmas.List.{take-append-drop, length-append, length-drop}
+use Rattle.ref_flags.specs.Flagged.{Flagged}
 use Rattle.ref_flags.specs.Codes.{code_of, flags_of}
 use Rattle.ref_flags.proofs.CodeLaws.{flags_of-code_of, code_of-le, code_of-flags_of, is_lawful-flags_of}
 use Rattle.page_codec.specs.declared.why.Why.{Why}
 use Rattle.page_codec.specs.declared.why.BadPage.{BadPage}
-use Rattle.page_codec.specs.Numbers.{IsBytes, big_endian, field, number_at, zeros, pieces, or_zero, or_none}
+use Rattle.page_codec.specs.Numbers.{big_endian, field, number_at, zeros, pieces, or_zero, or_none}
 use Rattle.page_codec.specs.Values.{PageValue, MemberValue, VersionValue}
-use Rattle.page_codec.specs.Bounds.{IsNamed, IsMember, IsFrame, IsVersion}
+use Rattle.page_codec.specs.Bounds.{IsVersion}
 use Rattle.page_codec.specs.Spelling.{frame_bytes, member_bytes, version_middle, version_bytes}
 use Rattle.page_codec.specs.Reading.{slots, data_len, member_value, members_value, frame_value, version_value}
-use Rattle.page_codec.specs.Causes.{Reads, cause_or, first_cause, version_causes, version_of, is_no_code, is_dangling, is_nonzero, is_bad_member, has_other, has_other_past, has_bad_members}
-use Rattle.page_codec.specs.Facts.{FrameFacts, VersionFacts}
+use Rattle.page_codec.specs.Causes.{Reads, cause_or, first_cause, version_causes, version_of, is_no_code, is_dangling, is_nonzero, is_bad_member, has_other, has_other_past}
+use Rattle.page_codec.specs.Facts.{VersionFacts}
 use Rattle.page_codec.proofs.CauseLaws.{clear_none, both_false, passes_same, passes_positive, passes_most, passes_below}
 use Rattle.page_codec.proofs.FactLaws.{VersionFacts-none}
-use Rattle.page_codec.proofs.FieldLaws.{field-field, length-field}
-use Rattle.page_codec.proofs.ByteLaws.{IsBytes-drop, wide32, wide64, length-big_endian, big_endian-number_at, number_at-lt, number_at-big_endian, zeros_field, zeros_pass, length-zeros, field-split, fields, sum_of, concat-fields}
+use Rattle.page_codec.proofs.FieldLaws.{field-field}
+use Rattle.page_codec.proofs.ByteLaws.{IsBytes-drop, wide32, wide64, length-big_endian, big_endian-number_at, number_at-lt, number_at-big_endian, zeros_field, zeros_pass, length-zeros, fields, sum_of, concat-fields}
 use Rattle.page_codec.proofs.PieceLaws.{pieces_read, pieces_again, length-flat_map-spell}
 use Rattle.page_codec.proofs.SlotLaws.{IsNamed-or_none, or_none-below, or_zero-or_none, or_none-or_zero, or_zero-below}
 use Rattle.page_codec.proofs.MemberLaws.{HasNumbers, length-member_bytes, member_law, members_good, members_numbers, members_pass}
-use Rattle.page_codec.proofs.FrameLaws.{IsBlock, AreFields, fields_join, fields_cut, are_seven, byte_in_field, frame_read, IsFrame-frame_value, IsFramed-frame_bytes, IsFrameRead-framed, length-frame_bytes}
+use Rattle.page_codec.proofs.FrameLaws.{IsBlock, fields_join, fields_cut, are_seven, byte_in_field, frame_read, IsFrame-frame_value, IsFramed-frame_bytes, IsFrameRead-framed, length-frame_bytes}
 
 -- ---- what is read is spelled so
 

@@ -1,8 +1,8 @@
 -- What the types keep, and which values have a spelling.
-use Rattle.std.specs.Prelude.{◌≡◌, ◌==◌, ℕ, ◌<◌, ◌≤◌, ◌^◌, ◌⊎◌, Bool, true, false, Option, List, [], length, is_none, is_some, nat_lt, not, IsTrue, IfSome, IfNone}
-use Rattle.std.specs.List.{AllByRecursion, list_any, list_all}
-use Rattle.ref_flags.specs.Flagged.{Flagged, is_lawful}
-use Rattle.page_codec.specs.Numbers.{IsBytes, or_zero, zeros}
+use Rattle.std.specs.Prelude.{◌≡◌, ◌==◌, ℕ, ◌<◌, ◌≤◌, ◌^◌, Bool, true, false, Option, List, length, is_some, not, IsTrue, IfSome, IfNone}
+use Rattle.std.specs.List.{AllByRecursion, list_any}
+use Rattle.ref_flags.specs.Flagged.{is_lawful}
+use Rattle.page_codec.specs.Numbers.{IsBytes, zeros}
 use Rattle.page_codec.specs.Values.{ReferenceValue, PageValue, MemberValue, VersionValue, EntryValue, RootValue, TableValue}
 use Rattle.page_codec.specs.Blank.{no_parts, no_entries}
 

@@ -1,10 +1,10 @@
 -- A new store: block 0 is its table, and block i the version page of file i.
-use Rattle.std.specs.Prelude.{◌≡◌, ℕ, ◌+◌, ◌*◌, Option, Some, None, List, [], ◌∷◌, ◌++◌, map, take, replicate, nat_le, if◌then◌else◌}
+use Rattle.std.specs.Prelude.{ℕ, ◌*◌, Some, None, List, [], ◌++◌, map, take, nat_le, if◌then◌else◌}
 use Rattle.std.specs.List.{range_with_len}
 use Rattle.std.specs.Int.{w32, w64}
 use Rattle.sha2.specs.Sha256.{sha256}
 use Rattle.ref_flags.specs.Flagged.{no_flags}
-use Rattle.page_codec.specs.Numbers.{big_endian, zeros, field}
+use Rattle.page_codec.specs.Numbers.{big_endian, field}
 use Rattle.page_codec.specs.Values.{VersionValue, EntryValue, RootValue}
 use Rattle.page_codec.specs.Blank.{empty_page, no_entry, no_parts}
 

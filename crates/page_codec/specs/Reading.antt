@@ -1,5 +1,5 @@
 -- What a block says, field by field, whether or not it is in the grammar.
-use Rattle.std.specs.Prelude.{ℕ, ◌+◌, ◌*◌, ◌/◌, ◌%◌, ◌^◌, List, map, drop, slice_index}
+use Rattle.std.specs.Prelude.{ℕ, ◌/◌, ◌%◌, ◌^◌, List, map, drop, slice_index}
 use Rattle.std.specs.Int.{w16, w32, w64}
 use Rattle.ref_flags.specs.Codes.{flags_of}
 use Rattle.page_codec.specs.Numbers.{field, number_at, pieces, or_none}

@@ -1,5 +1,4 @@
 -- What the reading gave, against the spelling.
-use Rattle.page_codec.proofs.FrameLaws.{IsBlock}
 use Rattle.page_codec.proofs.PageLaws.{page_found, page_only}
 use Rattle.page_codec.proofs.decode.decode_page.Goals as goal
 

@@ -1,7 +1,6 @@
 -- A page of level 7 has no slot in use.
-use Rattle.std.proofs.Common.{◌≡◌, false, List, ap, map, ◌∙◌}
+use Rattle.std.proofs.Common.{ap, map, ◌∙◌}
 use Rattle.std.specs.List.{list_any}
-use Rattle.page_codec.specs.Values.{ReferenceValue}
 use Rattle.page_codec.specs.Bounds.{is_used}
 use Rattle.page_codec.specs.Reading.{reference, slots}
 use Rattle.page_codec.proofs.SlotLaws.{unused_references}

@@ -1,9 +1,7 @@
 -- One more member is that of one more piece, and is not bad.
-use Rattle.std.proofs.Common.{◌≡◌, ℕ, ◌+◌, ◌*◌, ◌<◌, Bool, false, List, [], ◌∷◌, ◌++◌, length, map, get_or, arith, refl, ap, sym, ◌∙◌}
+use Rattle.std.proofs.Common.{◌≡◌, ℕ, ◌+◌, ◌*◌, List, [], ◌∷◌, length, map, arith, refl, ap, sym, ◌∙◌}
 use Rattle.std.specs.Int.{w32}
-use Rattle.std.specs.List.{list_any}
 use Rattle.std.proofs.lemmas.List.{map-append, length_push}
-use Rattle.page_codec.specs.Values.{MemberValue}
 use Rattle.page_codec.specs.Numbers.{field, number_at, pieces}
 use Rattle.page_codec.specs.Reading.{member_value}
 use Rattle.page_codec.specs.Causes.{is_bad_member}

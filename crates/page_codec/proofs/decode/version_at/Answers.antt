@@ -1,5 +1,5 @@
 -- The numbers that must not be 0 are not.
-use Rattle.std.proofs.Common.{◌≡◌, ℕ, ◌≤◌, subst, sym, ap, ◌∙◌}
+use Rattle.std.proofs.Common.{ℕ, ◌≤◌, subst, sym, ap, ◌∙◌}
 use Rattle.std.specs.Prelude.{Option}
 use Rattle.page_codec.specs.Values.{PageValue}
 use Rattle.page_codec.specs.Bounds.{IsNamed}

@@ -1,7 +1,7 @@
 -- Each block that is appended is the next, and leaves those before it.
-use Rattle.std.proofs.Common.{rules, ◌≡◌, ℕ, ◌+◌, ◌*◌, ◌≤◌, ◌<◌, List, [], refl, ◌++◌, length, arith, ap, subst, sym, ◌∙◌, inl, inr, length-append}
+use Rattle.std.proofs.Common.{◌≡◌, ℕ, ◌+◌, ◌*◌, ◌≤◌, List, [], refl, ◌++◌, length, arith, ap, subst, sym, ◌∙◌, inl, inr, length-append}
 use Rattle.std.proofs.lemmas.Bool.{cases_lt}
-use Rattle.page_codec.specs.NewStore.{block_of, new_root, new_version}
+use Rattle.page_codec.specs.NewStore.{block_of, new_version}
 use Rattle.page_codec.specs.Spelling.{version_bytes}
 use Rattle.page_codec.specs.TableSpelling.{root_bytes}
 use Rattle.page_codec.proofs.Blocks.{block_of-append, block_of-push}

@@ -1,8 +1,7 @@
 -- A live entry has a generation, and one that is not live no secret.
-use Rattle.std.proofs.Common.{rules, ◌≡◌, List, ℕ, length, subst, sym}
+use Rattle.std.proofs.Common.{rules, ◌≡◌, ℕ, length, subst, sym}
 use Rattle.std.specs.Prelude.{Option}
 use Rattle.page_codec.specs.declared.raw_entry.RawEntry.{RawEntry}
-use Rattle.page_codec.specs.Values.{EntryValue}
 use Rattle.page_codec.specs.Bounds.{IsSoundEntry}
 use Rattle.page_codec.proofs.EntryLaws.{IsSoundEntry-entry_value}
 use Rattle.page_codec.proofs.raw_entry.entry_of.Goals as goal

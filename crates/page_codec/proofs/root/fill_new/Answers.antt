@@ -1,8 +1,6 @@
-use Rattle.std.proofs.Common.{◌≡◌, ℕ, ◌+◌, ◌<◌, ◌∷◌, [], ◌++◌, take, map, length, arith, ap, subst, sym, ◌∙◌, add_comm}
-use Rattle.std.specs.List.{range_with_len}
+use Rattle.std.proofs.Common.{◌+◌, ◌<◌, length, arith, ◌∙◌}
 use Rattle.std.proofs.lemmas.List.{take_more_set, length-set}
 use Rattle.std.proofs.lemmas.List.FromFn.{map-range_with_len_more}
-use Rattle.page_codec.specs.Values.{EntryValue}
 use Rattle.page_codec.specs.NewStore.{new_entry}
 use Rattle.page_codec.proofs.root.fill_new.Goals as goal
 

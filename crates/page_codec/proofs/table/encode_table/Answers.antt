@@ -1,5 +1,5 @@
 -- The two parts fill the block; in format 2 the entries are not in it.
-use Rattle.std.proofs.Common.{◌≡◌, ℕ, List, [], ◌∷◌, ◌++◌, take, length, ap, arith, sym, ◌∙◌}
+use Rattle.std.proofs.Common.{ℕ, List, [], ◌∷◌, ◌++◌, ap, arith, sym, ◌∙◌}
 use Rattle.std.specs.Int.{w32, w64}
 use Rattle.std.proofs.lemmas.List.{take_all}
 use Rattle.page_codec.specs.Numbers.{big_endian}

@@ -1,8 +1,6 @@
 -- The two parts fill the block.
-use Rattle.std.proofs.Common.{◌≡◌, ℕ, List, [], ◌∷◌, ◌++◌, take, length, ap, arith, sym, ◌∙◌}
-use Rattle.std.specs.Int.{w32, w64}
+use Rattle.std.proofs.Common.{ℕ, List, ◌++◌, ap, arith, sym, ◌∙◌}
 use Rattle.std.proofs.lemmas.List.{take_all}
-use Rattle.page_codec.specs.Numbers.{big_endian}
 use Rattle.page_codec.specs.Values.{RootValue}
 use Rattle.page_codec.specs.TableSpelling.{rest_bytes, root_bytes}
 use Rattle.page_codec.proofs.table_bytes.encode_root.Goals as goal

@@ -1,6 +1,5 @@
 use Rattle.std.proofs.Common.{◌≡◌, ◌+◌, ◌*◌, ◌++◌, take}
-use Rattle.std.specs.List.{flat_map, AllByRecursion}
-use Rattle.page_codec.specs.Bounds.{IsEntry}
+use Rattle.std.specs.List.{flat_map}
 use Rattle.page_codec.specs.TableSpelling.{part_number_bytes}
 use Rattle.page_codec.proofs.table_bytes.put_parts.Given as goal
 

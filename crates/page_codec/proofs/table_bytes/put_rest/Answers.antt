@@ -1,5 +1,5 @@
 -- The entries, or the parts, and the zeros behind them fill the block.
-use Rattle.std.proofs.Common.{◌≡◌, ℕ, ◌+◌, ◌*◌, List, ◌++◌, take, length, arith}
+use Rattle.std.proofs.Common.{◌≡◌, length, arith}
 use Rattle.std.specs.List.{flat_map}
 use Rattle.page_codec.specs.TableSpelling.{entry_bytes, part_number_bytes, rest_bytes}
 use Rattle.page_codec.proofs.TableLaws.{rest_of_one, rest_of_two, rest_written}

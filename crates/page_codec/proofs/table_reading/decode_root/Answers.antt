@@ -1,5 +1,4 @@
 -- What the reading gave, against the spelling.
-use Rattle.page_codec.proofs.FrameLaws.{IsBlock}
 use Rattle.page_codec.proofs.RootLaws.{root_found, root_only}
 use Rattle.page_codec.proofs.table_reading.decode_root.Goals as goal
 

@@ -1,5 +1,5 @@
 -- The causes of the format follow those that both formats have.
-use Rattle.std.proofs.Common.{◌≡◌, sym, ◌∙◌}
+use Rattle.std.proofs.Common.{sym, ◌∙◌}
 use Rattle.std.specs.Prelude.{slice_index, ◌==◌, if◌then◌else◌}
 use Rattle.page_codec.specs.TableReading.{head_causes, one_causes, two_causes}
 use Rattle.page_codec.proofs.CauseLaws.{first_cause-append-some, first_cause-append-none}

@@ -1,7 +1,6 @@
 -- Blocks of the store are block numbers.
-use Rattle.std.proofs.Common.{◌≡◌, ◌^◌, ◌≤◌, false, List, ap, arith, ◌∙◌}
+use Rattle.std.proofs.Common.{◌^◌, ◌≤◌, ap, arith, ◌∙◌}
 use Rattle.std.specs.List.{list_any}
-use Rattle.page_codec.specs.declared.raw_entry.RawEntry.{RawEntry}
 use Rattle.page_codec.specs.TableReading.{raw_entries, is_far, is_uncounted, is_stray, block_count}
 use Rattle.page_codec.proofs.EntryLaws.{far_within}
 use Rattle.page_codec.proofs.table_reading.root_entries.Goals as goal

@@ -1,10 +1,10 @@
 -- Every first block is below the number of blocks.
-use Rattle.std.proofs.Common.{◌≡◌, ℕ, ◌≤◌, List, map, subst, sym, arith, refl}
+use Rattle.std.proofs.Common.{ℕ, ◌≤◌, List, subst, sym, arith}
 use Rattle.std.specs.Prelude.{Option}
 use Rattle.std.specs.List.{AllByRecursion}
 use Rattle.page_codec.specs.Values.{EntryValue}
 use Rattle.page_codec.specs.Bounds.{IsFirstBelow, IsPartBelow}
-use Rattle.page_codec.specs.TableReading.{raw_entries, entry_value, block_count}
+use Rattle.page_codec.specs.TableReading.{raw_entries, block_count}
 use Rattle.page_codec.proofs.NewStoreLaws.{IsPartBelow-no_parts}
 use Rattle.page_codec.proofs.EntryLaws.{firsts_below}
 use Rattle.page_codec.proofs.table_reading.root_one.Goals as goal

@@ -1,5 +1,5 @@
 -- Every part's block is below the number of blocks.
-use Rattle.std.proofs.Common.{◌≡◌, ℕ, ◌≤◌, List, map, subst, sym, arith, refl}
+use Rattle.std.proofs.Common.{ℕ, ◌≤◌, List, subst, sym}
 use Rattle.std.specs.Prelude.{Option}
 use Rattle.std.specs.List.{AllByRecursion}
 use Rattle.page_codec.specs.Values.{EntryValue}

@@ -1,5 +1,5 @@
 -- The entries are those of block 0 in format 1, and none in format 2.
-use Rattle.std.proofs.Common.{rules, ◌≡◌, ℕ, List, length, cond, eqb, subst, sym, ap, ◌∙◌}
+use Rattle.std.proofs.Common.{◌≡◌, ℕ, List, length, cond, eqb, subst, sym, ap, ◌∙◌}
 use Rattle.std.specs.Prelude.{Option}
 use Rattle.std.specs.List.{AllByRecursion}
 use Rattle.page_codec.specs.Values.{EntryValue, RootValue}

@@ -1,5 +1,5 @@
 -- One entry changed leaves what the table keeps.
-use Rattle.std.proofs.Common.{◌≡◌, ℕ, ◌-◌, List, length, set, sym, subst, ap, ◌∙◌, length-set}
+use Rattle.std.proofs.Common.{ℕ, ◌-◌, set, sym, subst, ap, ◌∙◌, length-set}
 use Rattle.std.proofs.lemmas.List.Elements.{All-set, All-from_recursion, recursion_from_All}
 use Rattle.page_codec.specs.Values.{EntryValue, TableValue}
 use Rattle.page_codec.specs.Bounds.{IsFirstBelow}
