@@ -1,0 +1,12 @@
+pub mod Numbers
+pub mod Values
+pub mod Blank
+pub mod Bounds
+pub mod Spelling
+pub mod TableSpelling
+pub mod NewStore
+pub mod Reading
+pub mod Causes
+pub mod Facts
+pub mod TableReading
+pub mod TableFacts
