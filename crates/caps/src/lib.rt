@@ -1,0 +1,7 @@
+//! Capabilities: sixteen bytes that name an object of a store, say what their holder may do with it,
+//! and carry a check that only the store can make.
+#![tactic(auto)]
+
+mod capability;
+
+pub use crate::capability::{BadHex, Capability};
