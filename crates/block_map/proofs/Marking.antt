@@ -40,9 +40,9 @@ IsSound-give_back client free least old new count r s held = record {
 -- a free block is not below the place that is kept
 least-le : (xs : List BlockState) (n least : ℕ) → free_below xs least ≡ 0 → is_free (state_at xs n) ≡ true → least ≤ n
 least-le xs n least none is = elim (cases_lt n least) [
-    inl lt ↦ absurd (both_ways (is_free (state_at xs n)) (none_at xs n least lt none) is)
+  | inl lt ↦ absurd (both_ways (is_free (state_at xs n)) (none_at xs n least lt none) is)
   | inr le ↦ le
-  ]
+]
 
 pub free-positive : (xs : List BlockState) (n free least : ℕ) → IsSound xs free least → n < length xs → state_at xs n ≡ Free → 1 ≤ free
 free-positive xs n free least s h is =
@@ -80,6 +80,6 @@ IsSound-free xs n free least s h other is = record {
 pub slice_get-lt : {X : Type 0} (xs : List X) (n : ℕ) (x : X) → slice_get xs n ≡ Some x → n < length xs
 slice_get-lt xs n x e =
     elim (cases_lt n (length xs)) [
-      inl lt ↦ lt
-    | inr le ↦ absurd (none-some x (sym (slice_get_past xs n le) ∙ e))
+      | inl lt ↦ lt
+      | inr le ↦ absurd (none-some x (sym (slice_get_past xs n le) ∙ e))
     ]

@@ -34,8 +34,8 @@ ReplacesBelow-held client by old new at count r h is =
     record {
       size = length-set new at by ∙ r.size;
       below = below_more (λ k. state_at (set new at by) k ≡ cond (is_held client (state_at old k)) by (state_at old k)) at
-        (λ k lt. get_or-set_other new at k by Kept (omega arith) ∙ r.below k lt)
-        (get_or-set_same new at by Kept h ∙ sym (cond-true _ _ _ was));
+          (λ k lt. get_or-set_other new at k by Kept (omega arith) ∙ r.below k lt)
+          (get_or-set_same new at by Kept h ∙ sym (cond-true _ _ _ was));
       above = λ k le. get_or-set_other new at k by Kept (omega arith) ∙ r.above k (omega arith);
       tally = omega (arith, r.tally, count_by_more_yes (is_held client) old at Kept (omega (arith, r.size)) was);
     }
@@ -49,7 +49,7 @@ ReplacesBelow-other client by old new at count r h is =
     record {
       size = r.size;
       below = below_more (λ k. state_at new k ≡ cond (is_held client (state_at old k)) by (state_at old k)) at
-        r.below (r.above at (omega arith) ∙ sym (cond-false _ _ _ was));
+          r.below (r.above at (omega arith) ∙ sym (cond-false _ _ _ was));
       above = λ k le. r.above k (omega arith);
       tally = omega (arith, r.tally, count_by_more_no (is_held client) old at Kept (omega (arith, r.size)) was);
     }
@@ -60,10 +60,10 @@ ReplacesBelow-end client by old new at count r end = (
   record {
     size = r.size;
     states = λ k.
-      elim (cases_lt k at) [
-        inl lt ↦ r.below k lt
-      | inr le ↦ r.above k le ∙ past client by old k (omega (arith, r.size))
-      ];
+        elim (cases_lt k at) [
+          | inl lt ↦ r.below k lt
+          | inr le ↦ r.above k le ∙ past client by old k (omega (arith, r.size))
+        ];
   },
   r.tally ∙ ap (held_count client) (take_all at old (omega (arith, r.size))),
 )
@@ -143,10 +143,10 @@ pub Replaces-take : (client : ℕ) (by : BlockState) (old new : List BlockState)
 Replaces-take client by old new n r = record {
   size = length-take n new ∙ ap (min n) r.size ∙ sym (length-take n old);
   states = λ k.
-    elim (cases_lt k n) [
-      inl lt ↦ get_or-take n new k Kept lt ∙ r.states k ∙ ap (λ s. cond (is_held client s) by s) (sym (get_or-take n old k Kept lt))
-    | inr le ↦ past_take n new k le ∙ ap (λ s. cond (is_held client s) by s) (sym (past_take n old k le))
-    ];
+      elim (cases_lt k n) [
+        | inl lt ↦ get_or-take n new k Kept lt ∙ r.states k ∙ ap (λ s. cond (is_held client s) by s) (sym (get_or-take n old k Kept lt))
+        | inr le ↦ past_take n new k le ∙ ap (λ s. cond (is_held client s) by s) (sym (past_take n old k le))
+      ];
 }
   where
     past_take : (n : ℕ) (xs : List BlockState) (k : ℕ) → n ≤ k → state_at (take n xs) k ≡ Kept

@@ -20,20 +20,19 @@ pub record TakesBelow (client n : ℕ) (old new : List BlockState) (at left : �
   pub others : (c : ℕ) → c ≢ client → held_count c new ≡ held_count c old
   pub none_free : free_below new at ≡ 0
 
-
 -- below a place below which nothing is free, no block is free
 pub none_at : (xs : List BlockState) (k from : ℕ) → k < from → free_below xs from ≡ 0 → is_free (state_at xs k) ≡ false
 none_at xs k from h none =
     elim (cases_Bool (is_free (state_at xs k))) [
-      inl was ↦ absurd (some_at xs k from h none was)
-    | inr was ↦ was
+      | inl was ↦ absurd (some_at xs k from h none was)
+      | inr was ↦ was
     ]
   where
     some_at : (xs : List BlockState) (k from : ℕ) → k < from → free_below xs from ≡ 0 → is_free (state_at xs k) ≡ true → ⊥
     some_at xs k from h none was = elim (cases_lt k (length xs)) [
-        inl lt ↦ omega (arith, count_by_more_yes is_free xs k Kept lt was, count_by-take-mono is_free xs (k + 1) from (omega arith))
+      | inl lt ↦ omega (arith, count_by_more_yes is_free xs k Kept lt was, count_by-take-mono is_free xs (k + 1) from (omega arith))
       | inr le ↦ both_ways (is_free (state_at xs k)) (ap is_free (get_or_past xs k Kept le)) was
-      ]
+    ]
 
 -- a free block is held by nobody
 free_not_held : (c : ℕ) (s : BlockState) → is_free s ≡ true → is_held c s ≡ false
@@ -80,12 +79,12 @@ TakesBelow-give client n old new at left t h some is =
     let was : is_free (state_at old at) ≡ true = sym (ap is_free (t.above at (omega arith))) ∙ is in
     let more = count_by_more_yes is_free old at Kept (omega (arith, t.size)) was in
     let least : is_least old n at ≡ true =
-      and_from _ _ was (lt-ltb (free_below old at) n (omega (arith, t.seen))) in
+    and_from _ _ was (lt-ltb (free_below old at) n (omega (arith, t.seen))) in
     record {
       size = length-set new at (Held client) ∙ t.size;
       below = below_more (λ k. state_at (set new at (Held client)) k ≡ cond (is_least old n k) (Held client) (state_at old k)) at
-        (λ k lt. get_or-set_other new at k (Held client) Kept (omega arith) ∙ t.below k lt)
-        (get_or-set_same new at (Held client) Kept h ∙ sym (cond-true (is_least old n at) _ _ least));
+          (λ k lt. get_or-set_other new at k (Held client) Kept (omega arith) ∙ t.below k lt)
+          (get_or-set_same new at (Held client) Kept h ∙ sym (cond-true (is_least old n at) _ _ least));
       above = λ k le. get_or-set_other new at k (Held client) Kept (omega arith) ∙ t.above k (omega arith);
       seen = omega (arith, more, t.seen);
       free = omega (arith, count-give is_free new at (Held client) h, ap one is, t.free);
@@ -105,7 +104,7 @@ TakesBelow-pass client n old new at left t h is =
     record {
       size = t.size;
       below = below_more (λ k. state_at new k ≡ cond (is_least old n k) (Held client) (state_at old k)) at t.below
-        (t.above at (omega arith) ∙ sym (cond-false (is_least old n at) _ _ (and_left _ _ was)));
+          (t.above at (omega arith) ∙ sym (cond-false (is_least old n at) _ _ (and_left _ _ was)));
       above = λ k le. t.above k (omega arith);
       seen = omega (arith, more, t.seen);
       free = t.free;
@@ -131,11 +130,11 @@ TakesBelow-end client n old new at left t room end =
       takes = record {
         size = t.size;
         states = λ k.
-          elim (cases_lt k at) [
-            inl lt ↦ t.below k lt
-          | inr le ↦ t.above k le ∙ sym (cond-false (is_least old n k) _ _ (and_right (is_free (state_at old k)) (ltb (free_below old k) n)
-              (le-ltb (free_below old k) n (omega (arith, count_by-take-mono is_free old at k le, t.seen)))))
-          ];
+            elim (cases_lt k at) [
+              | inl lt ↦ t.below k lt
+              | inr le ↦ t.above k le ∙ sym (cond-false (is_least old n k) _ _ (and_right (is_free (state_at old k)) (ltb (free_below old k) n)
+                  (le-ltb (free_below old k) n (omega (arith, count_by-take-mono is_free old at k le, t.seen)))))
+            ];
       };
       free = omega (arith, t.free);
       held = omega (arith, t.held);

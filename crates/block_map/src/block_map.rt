@@ -2,13 +2,11 @@ ghost use Rattle.std.specs.Prelude.{◌≡◌, ◌≢◌, ◌+◌, ◌-◌, ◌<
 ghost use Rattle.block_map.specs.States.{free_count, held_count, held_below, state_at, TakesLeast, Replaces};
 ghost use Rattle.block_map.specs.declared.states.BlockState.TheVariants.{Free, Held, Kept};
 
+use crate::states::{BlockState, is_held, replace_held, take_least};
+use afs_base::{BlockNo, ClientNo};
 use std::alloc::{AllocError, Global};
 use std::marker::Model;
 use thiserror::Error;
-
-use afs_base::{BlockNo, ClientNo};
-
-use crate::states::{is_held, replace_held, take_least, BlockState};
 
 /// The state of each block of a store. Contracts see the list of the states, block 0 first. Only `make` takes memory.
 #[derive(Drop)]

@@ -3,5 +3,7 @@
 #![tactic(auto)]
 
 mod capability;
+mod denied;
 
 pub use crate::capability::{BadHex, Capability};
+pub use crate::denied::{Denied, DeniedWhy};

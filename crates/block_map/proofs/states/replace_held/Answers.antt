@@ -11,8 +11,8 @@ places-preserved c =
     let h : c.places.at < length c.places.states.items = omega (arith, c.places.invariant.size) in
     let same = ap (is_held c.args.client) (sym (get_or_read c.places.states.items c.places.at c.index.result.now h c.index.ensures Kept)) in
     elim c.if-is_held.branch [
-      then-is_held w ↦ rw (w.states-is, w.count-is)
-        (ReplacesBelow-held _ _ _ _ _ _ c.places.invariant h (same ∙ sym w.if-is_held.ensures))
-    | else-is_held w ↦ rw (w.states-is, w.count-is)
-        (ReplacesBelow-other _ _ _ _ _ _ c.places.invariant h (same ∙ sym w.if-is_held.ensures))
+      | then-is_held w ↦ rw (w.states-is, w.count-is)
+          (ReplacesBelow-held _ _ _ _ _ _ c.places.invariant h (same ∙ sym w.if-is_held.ensures))
+      | else-is_held w ↦ rw (w.states-is, w.count-is)
+          (ReplacesBelow-other _ _ _ _ _ _ c.places.invariant h (same ∙ sym w.if-is_held.ensures))
     ]

@@ -11,10 +11,10 @@ search-preserved c =
     let h : c.search.at < length c.search.states.items = omega arith in
     let same = ap is_free (sym (get_or_read c.search.states.items c.search.at c.index.result.now h c.index.ensures Kept)) in
     elim c.if-is_free.branch [
-      then-is_free w ↦ rw (w.states-is, w.left-is)
-        (TakesBelow-give _ _ _ _ _ _ c.search.invariant h (omega arith) (same ∙ sym w.if-is_free.ensures))
-    | else-is_free w ↦ rw (w.states-is, w.left-is)
-        (TakesBelow-pass _ _ _ _ _ _ c.search.invariant h (same ∙ sym w.if-is_free.ensures))
+      | then-is_free w ↦ rw (w.states-is, w.left-is)
+          (TakesBelow-give _ _ _ _ _ _ c.search.invariant h (omega arith) (same ∙ sym w.if-is_free.ensures))
+      | else-is_free w ↦ rw (w.states-is, w.left-is)
+          (TakesBelow-pass _ _ _ _ _ _ c.search.invariant h (same ∙ sym w.if-is_free.ensures))
     ]
 
 pub returns-after-search-clause-taken : goal.returns-after-search-clause-taken
