@@ -42,7 +42,9 @@ impl BlockMap {
     pub fn make(alloc: Global, blocks: u32) -> Result<BlockMap, AllocError>
         requires least { 2 ≤ blocks }
         requires most { blocks ≤ 65536 }
-        ensures { IfOk result (λ map. map ≡ Kept ∷ replicate (blocks - 1) Free) }
+        ensures states { IfOk result (λ map. map ≡ Kept ∷ replicate (blocks - 1) Free) }
+        ensures free { IfOk result (λ map. free_count map ≡ blocks - 1) }
+        ensures held { IfOk result (λ map. (c : ℕ) → held_count c map ≡ 0) }
     {
         let mut states = vec![in alloc; BlockState::Free; blocks as usize]?;
         states[0] = BlockState::Kept;

@@ -6,3 +6,6 @@ mod states;
 
 pub use crate::block_map::{BlockMap, NoSpace};
 pub use crate::states::BlockState;
+
+#[cfg(test)]
+mod tests;

@@ -36,6 +36,13 @@ impl Model for Script {
 }
 
 impl Script {
+    /// A script of these lines.
+    pub(crate) fn of(mode: Mode, lines: Vec<Line>) -> Script
+        ensures { result ≡ record { mode = mode; lines = lines.items } }
+    {
+        Script { mode, lines }
+    }
+
     /// The mode with which the script was read.
     pub fn mode(&self) -> Mode
         ensures { result ≡ self.now.mode }
