@@ -1,12 +1,12 @@
 -- Changes of a map that is sound.
-use Rattle.std.proofs.Common.{◌≡◌, ℕ, ◌+◌, ◌-◌, ◌<◌, ◌≤◌, ◌≢◌, min, Bool, true, false, cond, List, length, take, get_or, set, refl, sym, ◌∙◌, ap, inl, inr, arith}
+use Rattle.std.proofs.Common.{◌≡◌, ℕ, ◌+◌, ◌-◌, ◌<◌, ◌≤◌, ◌≢◌, min, true, cond, List, length, take, set, refl, sym, ◌∙◌, ap, inl, inr, arith}
 use Rattle.std.specs.List.{slice_get}
 use Rattle.std.specs.Prelude.{Some}
 use Rattle.std.proofs.lemmas.List.{length-set, get_or-set_other, take-set-le}
 use Rattle.std.proofs.lemmas.Bool.{cases_lt, both_ways}
 use Rattle.std.proofs.lemmas.Option.{none-some, slice_get_past}
 use Rattle.block_map.specs.declared.states.BlockState.{BlockState}
-use Rattle.block_map.specs.declared.states.BlockState.TheVariants.{Free, Held, Kept}
+use Rattle.block_map.specs.declared.states.BlockState.TheVariants.{Free, Kept}
 use Rattle.block_map.specs.States.{is_free, is_held, state_at, free_count, free_below, held_count, IsSound, Replaces}
 use Rattle.block_map.proofs.Counting.{one, count_by-take-mono}
 use Rattle.block_map.proofs.Taking.{none_at, count-give}

@@ -1,14 +1,14 @@
 -- Changing the state of what a client holds, block by block.
-use Rattle.std.proofs.Common.{◌≡◌, ℕ, ◌+◌, ◌<◌, ◌≤◌, ◌≢◌, Bool, true, false, ◌||◌, cond, min, List, length, take, get_or, set, refl, sym, ◌∙◌, ap, arith, below_more}
+use Rattle.std.proofs.Common.{◌≡◌, ℕ, ◌+◌, ◌<◌, ◌≤◌, ◌≢◌, Bool, true, false, ◌||◌, cond, min, List, length, take, set, refl, sym, ◌∙◌, ap, arith, below_more}
 use Rattle.std.specs.List.{count_by}
 use Rattle.std.proofs.lemmas.List.{length-set, length-take, get_or-take, get_or-set_same, get_or-set_other, get_or_past, take_all}
 use Rattle.std.proofs.lemmas.List.Sums.{count_by_more_yes, count_by_more_no}
-use Rattle.std.proofs.lemmas.Bool.{cond-true, cond-false, eqb-true, ne_eqb, cases_lt, cases_Bool}
-use Rattle.std.proofs.Common.{◌⊎◌, inl, inr, eqb}
+use Rattle.std.proofs.lemmas.Bool.{cond-true, cond-false, eqb-true, ne_eqb, cases_lt}
+use Rattle.std.proofs.Common.{inl, inr, eqb}
 use Rattle.block_map.specs.declared.states.BlockState.{BlockState}
 use Rattle.block_map.specs.declared.states.BlockState.TheVariants.{Free, Held, Kept}
 use Rattle.block_map.specs.States.{is_free, is_held, state_at, free_count, held_count, held_below, Replaces}
-use Rattle.block_map.proofs.Counting.{one, count_by-pointwise, count_by-either, count_by-none}
+use Rattle.block_map.proofs.Counting.{count_by-pointwise, count_by-either, count_by-none}
 
 -- the blocks below `at` are dealt with, and `count` of them were held
 pub record ReplacesBelow (client : ℕ) (by : BlockState) (old new : List BlockState) (at count : ℕ) : Type 0 where

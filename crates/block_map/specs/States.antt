@@ -1,5 +1,5 @@
 -- Lists of block states, block 0 first.
-use Rattle.std.specs.Prelude.{◌≡◌, ℕ, ◌+◌, ◌<◌, ◌≤◌, ◌==◌, nat_lt, Bool, true, false, ◌&&◌, if◌then◌else◌, List, length, take, count_by, slice_index_or}
+use Rattle.std.specs.Prelude.{◌≡◌, ℕ, ◌≤◌, ◌==◌, nat_lt, Bool, true, false, ◌&&◌, if◌then◌else◌, List, length, take, count_by, slice_index_or}
 use Rattle.block_map.specs.declared.states.BlockState.{BlockState}
 use Rattle.block_map.specs.declared.states.BlockState.TheVariants.{Free, Held, Kept}
 

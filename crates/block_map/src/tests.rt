@@ -4,21 +4,18 @@ use std::test::Fail;
 
 #[test]
 fn holds_keeps_and_gives_back(rt: HostRuntime) -> Result<(), Fail> {
-    let one = ClientNo::of(1)?;
-    let two = ClientNo::of(2)?;
+    let client = ClientNo::of(1)?;
     let mut map = BlockMap::make(rt.alloc(), 6)?;
     assert_eq!(rt; map.free(), 5);
-    map.hold(one, 2)?;
-    map.hold(two, 1)?;
-    assert_eq!(rt; map.held(one, 0).get(), 1);
-    assert_eq!(rt; map.held(one, 1).get(), 2);
-    assert_eq!(rt; map.held(two, 0).get(), 3);
-    map.keep(one);
-    assert_eq!(rt; map.hold(one, 3), Err(NoSpace { needed: 3, free: 2 }));
-    map.give_back(two);
-    map.hold(two, 3)?;
-    assert_eq!(rt; map.held(two, 0).get(), 3);
+    map.hold(client, 2)?;
+    assert_eq!(rt; map.held(client, 1).get(), 2);
+    map.keep(client);
+    assert_eq!(rt; map.hold(client, 4), Err(NoSpace { needed: 4, free: 3 }));
+    map.hold(client, 3)?;
     assert_eq!(rt; map.free(), 0);
+    map.give_back(client);
+    map.hold(client, 1)?;
+    assert_eq!(rt; map.held(client, 0).get(), 3);
     Ok(())
 }
 

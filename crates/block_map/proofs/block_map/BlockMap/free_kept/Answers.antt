@@ -1,8 +1,7 @@
-use Rattle.std.proofs.Common.{◌≡◌, ◌∙◌, ap, ◌<◌, length, arith}
+use Rattle.std.proofs.Common.{◌∙◌, ap}
 use Rattle.std.specs.List.{slice_get}
 use Rattle.std.proofs.lemmas.Option.{get_or_from_slice_get}
-use Rattle.block_map.specs.States.{state_at}
-use Rattle.block_map.specs.declared.states.BlockState.TheVariants.{Free, Kept}
+use Rattle.block_map.specs.declared.states.BlockState.TheVariants.{Kept}
 use Rattle.block_map.proofs.Marking.{IsSound-free, slice_get-lt}
 use Rattle.block_map.proofs.block_map.BlockMap.free_kept.Goals as goal
 

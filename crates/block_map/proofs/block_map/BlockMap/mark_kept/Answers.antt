@@ -1,7 +1,6 @@
-use Rattle.std.proofs.Common.{◌≡◌, ◌∙◌, ap, ◌<◌, length, arith}
+use Rattle.std.proofs.Common.{◌∙◌, ap}
 use Rattle.std.specs.List.{slice_get}
 use Rattle.std.proofs.lemmas.Option.{get_or_from_slice_get}
-use Rattle.block_map.specs.States.{state_at}
 use Rattle.block_map.specs.declared.states.BlockState.TheVariants.{Free, Kept}
 use Rattle.block_map.proofs.Marking.{IsSound-mark, free-positive, slice_get-lt}
 use Rattle.block_map.proofs.block_map.BlockMap.mark_kept.Goals as goal
