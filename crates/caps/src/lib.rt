@@ -4,6 +4,8 @@
 
 mod capability;
 mod denied;
+mod seal;
 
 pub use crate::capability::{BadHex, Capability};
 pub use crate::denied::{Denied, DeniedWhy};
+pub use crate::seal::{Seal, granted, restricted};
