@@ -9,3 +9,6 @@ mod seal;
 pub use crate::capability::{BadHex, Capability};
 pub use crate::denied::{Denied, DeniedWhy};
 pub use crate::seal::{Seal, granted, restricted};
+
+#[cfg(test)]
+mod tests;

@@ -1,12 +1,10 @@
 ghost use Rattle.std.specs.Prelude.{◌≡◌, ◌==◌};
 ghost use Rattle.caps.specs.Grant.{check_of, capability_of, doubt_of, granted, restricted, is_genuine, has_rights};
 
-use std::marker::Model;
-
-use sha2::{Digest, Sha256};
-
 use crate::capability::Capability;
 use crate::denied::DeniedWhy;
+use sha2::{Digest, Sha256};
+use std::marker::Model;
 
 /// What the capabilities of a live object are sealed with: the secret and the generation of its entry in the table.
 #[derive(Clone, Copy, Debug)]
@@ -56,7 +54,8 @@ impl Seal {
         let o = object.to_be_bytes();
         let c = self.check(object, rights);
         Capability::of_bytes(&[
-            b'a', b'm', b'o', b'e', b'b', b'a', o[1], o[2], o[3], rights, c[0], c[1], c[2], c[3], c[4], c[5],
+            b'a', b'm', b'o', b'e', b'b', b'a', o[1], o[2], o[3], rights, c[0], c[1], c[2], c[3],
+            c[4], c[5],
         ])
     }
 
