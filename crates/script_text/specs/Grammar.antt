@@ -3,7 +3,6 @@ use Rattle.std.specs.Prelude.{◌≡◌, ℕ, ◌+◌, ◌==◌, nat_lt, nat_le,
 use Rattle.std.specs.Option.{option_and_then, option_map, ok_or}
 use Rattle.std.specs.List.{list_all, filter_map, slice_get}
 use Rattle.std.specs.Str.{bytes_eq}
-use Rattle.tree_model.specs.declared.step.Step.{Step}
 use Rattle.tree_model.specs.declared.step.Step.TheVariants.{ReadAt, ListAt, WriteAt, MakeAt, DropAt}
 use Rattle.script_text.specs.declared.command.FileName.{FileName}
 use Rattle.script_text.specs.declared.command.FileName.TheVariants.{Number, Cap}

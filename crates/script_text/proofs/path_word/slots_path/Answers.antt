@@ -1,4 +1,4 @@
-use Rattle.std.proofs.Common.{rules, tests, ℕ, List, [], ◌∷◌, ◌++◌, ◌+◌, eqb, length, drop, get_or, refl, sym, ap, ◌∙◌, arith, length-append}
+use Rattle.std.proofs.Common.{rules, tests, [], eqb, length, drop, refl, sym, ap, ◌∙◌, arith}
 use Rattle.std.specs.List.{slice_split}
 use Rattle.std.proofs.lemmas.List.{get_or_read, length_push}
 use Rattle.std.proofs.lemmas.Iterator.Consumers.{YieldsList-turn, YieldsList-end}
