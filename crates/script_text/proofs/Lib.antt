@@ -1,0 +1,4 @@
+pub mod Taking
+pub mod SlotLemmas
+pub mod Prepending
+pub mod LineLemmas
