@@ -1,0 +1,132 @@
+use Rattle.std.specs.Prelude.{◌≡◌, ℕ, zero, suc, ◌+◌, Bool, true, not, ◌==◌, List, [], ◌∷◌, ◌++◌, map, length, if◌then◌else◌, Option, Some, None}
+use Rattle.script_text.specs.declared.reply.LineReply.{LineReply}
+use Rattle.script_text.specs.declared.reply.LineReply.TheVariants.{Base, Committed as CommittedReply, Stepped}
+use Rattle.service_model.specs.declared.journal.Entry.{Entry}
+use Rattle.service_model.specs.declared.journal.What.{What}
+use Rattle.service_model.specs.declared.journal.What.TheVariants.{Began, Held, Committed, Answered}
+use Rattle.service_model.specs.declared.named.Named.{Named}
+use Rattle.service_model.specs.Order.{Turn}
+use Rattle.service_model.specs.Standing.{Scripts, Standing, Client, Update}
+use Rattle.tree_model.specs.States.{State, Version}
+use Rattle.tree_model.specs.declared.step.Step.{Step}
+use Rattle.tree_model.specs.Accesses.{all_writes, visible_of}
+use Rattle.tree_model.specs.Trees.{single, replies_of, tree_after}
+use Rattle.afs_top.specs.Script.{update_lines}
+use Rattle.afs_top.specs.NewState.{page_tree, first_version, new_file, no_files, new_state}
+
+-- What the run of one update notes, part by part.
+
+-- a version of file 1
+abbrev pub named : ℕ → Named
+named serial = record { object = 1; serial = serial }
+
+-- an entry of client 1
+abbrev pub entry : ℕ → What → Entry
+entry line what = record { client = 1; line = line; what = what }
+
+-- so many lines from this one on are answered
+unfoldable pub answered_lines : ℕ → ℕ → List Entry
+answered_lines n zero = []
+answered_lines n (suc k) = entry n Answered ∷ answered_lines (n + 1) k
+
+-- the update is open
+abbrev pub begun_entries : List Entry
+begun_entries = entry 1 (Began (named 1 ∷ [])) ∷ entry 1 Answered ∷ []
+
+-- and so many of its steps are answered
+abbrev pub stepped_entries : ℕ → List Entry
+stepped_entries n = begun_entries ++ answered_lines 2 n
+
+-- and the block of its commit is held
+abbrev pub held_entries : ℕ → List Entry
+held_entries n = stepped_entries n ++ entry (n + 2) (Held 1) ∷ []
+
+-- a commit that makes no version
+abbrev pub nothing_entries : ℕ → ℕ → List Entry
+nothing_entries line at = entry line (Committed [] at) ∷ entry line Answered ∷ []
+
+-- a commit that makes the second version of file 1
+abbrev pub commit_entries : ℕ → ℕ → List Entry
+commit_entries line at = entry line (Committed (named 2 ∷ []) at) ∷ entry line Answered ∷ []
+
+-- the entries of a commit: with a new version, whose block is held first, or with none
+abbrev pub last_entries : Bool → ℕ → ℕ → List Entry
+last_entries written line at = if written then entry line (Held 1) ∷ commit_entries line at else nothing_entries line at
+
+-- the whole journal of an update with so many steps, committed at a moment
+abbrev pub whole_entries : Bool → ℕ → ℕ → List Entry
+whole_entries written n at = stepped_entries n ++ last_entries written (n + 2) at
+
+-- the last serial of the file after the commit
+abbrev pub last_serial : Bool → ℕ
+last_serial written = if written then 2 else 1
+
+-- a commit was cut off while it wrote: its block was held
+abbrev pub IsCut : Bool → ℕ → List Entry → List Entry → Type 0
+IsCut written line old new = (written ≡ true) × (new ≡ old ++ entry line (Held 1) ∷ [])
+
+-- a list begins with another
+abbrev pub IsFront : List Entry → List Entry → Type 0
+IsFront es all = (rest : List Entry) × (es ++ rest ≡ all)
+
+-- a front of these entries was noted after those
+abbrev pub IsPart : List Entry → List Entry → List Entry → Type 0
+IsPart old es new = (front rest : List Entry) × (new ≡ old ++ front) × (front ++ rest ≡ es)
+
+-- the steps write something
+abbrev pub is_written_by : List Step → Bool
+is_written_by steps = not (length (all_writes single steps) == 0)
+
+-- the answers up to these steps
+abbrev pub step_answers : List Step → List LineReply
+step_answers steps = Base (1 ∷ []) ∷ map Stepped (replies_of single steps)
+
+-- all answers
+abbrev pub whole_answers : Bool → List Step → List LineReply
+whole_answers written steps = step_answers steps ++ CommittedReply (last_serial written ∷ []) ∷ []
+
+-- the scripts of a run with this update alone
+abbrev pub scripts_of : List Step → Scripts
+scripts_of steps = update_lines steps ∷ []
+
+-- so many lines of client 1 from this one on
+unfoldable pub turns : ℕ → ℕ → List Turn
+turns n zero = []
+turns n (suc k) = (1, n) ∷ turns (n + 1) k
+
+-- the order in which the lines of such an update are answered
+abbrev pub order_of : List Step → List Turn
+order_of steps = turns 1 (length steps + 2)
+
+-- a client of such a run, with these answers and this update
+abbrev pub client_with : List LineReply → Option Update → ℕ → List What → Client
+client_with answers update held noted = record { answers = answers; update = update; held = held; noted = noted }
+
+-- the update after these steps
+abbrev pub update_with : List Step → Update
+update_with steps = record { works = record { object = 1; serial = 1; base = page_tree []; steps = steps } ∷ []; picked = 0 }
+
+-- what stands after these steps
+abbrev pub stepped_standing : List Step → Standing
+stepped_standing steps = record { state = new_state; clients = client_with (step_answers steps) (Some (update_with steps)) 0 [] ∷ []; made = []; moment = 0 }
+
+-- what stands when the block of the commit is held
+abbrev pub held_standing : List Step → Standing
+held_standing steps = record { state = new_state; clients = client_with (step_answers steps) (Some (update_with steps)) 1 (Held 1 ∷ []) ∷ []; made = []; moment = 0 }
+
+-- the second version of file 1
+abbrev pub second_of : List Step → Version
+second_of steps = record { serial = 2; tree = tree_after (page_tree []) steps; fresh = [] ∷ [] }
+
+-- the state with the second version
+abbrev pub second_state : List Step → State
+second_state steps = record new_state { files = record (new_file 1) { versions = first_version ∷ second_of steps ∷ [] } ∷ new_file 2 ∷ no_files 58 }
+
+-- what stands at the end, after a commit at this moment
+abbrev pub final_standing : List Step → ℕ → Standing
+final_standing steps at = record {
+  state = if is_written_by steps then second_state steps else new_state;
+  clients = client_with (whole_answers (is_written_by steps) steps) None 0 [] ∷ [];
+  made = if is_written_by steps then record { object = 1; serial = 2; visible = visible_of (page_tree []) steps } ∷ [] else [];
+  moment = at;
+}

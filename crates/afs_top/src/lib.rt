@@ -1,0 +1,18 @@
+//! The top call: reads the words of a command and the clients' scripts, plays them over two halves and prints what
+//! each line was answered.
+#![tactic(auto)]
+
+mod account;
+mod draft;
+mod open;
+mod pages;
+mod play;
+mod print;
+mod read;
+mod script;
+mod status;
+mod stop;
+mod update;
+
+pub use play::{Ended, afs_play, afs_words};
+pub use status::Status;
