@@ -1,4 +1,4 @@
-ghost use Rattle.std.specs.Prelude.{None};
+ghost use Rattle.std.specs.Prelude.{◌≡◌, None};
 
 use afs_base::Failed;
 use script_text::Sink;
@@ -13,7 +13,9 @@ pub struct StdSink<'a, R> {
 
 impl<'a, R: Print> StdSink<'a, R> {
     /// The standard output of this runtime.
-    pub fn over(rt: &'a R) -> StdSink<'a, R> {
+    pub fn over(rt: &'a R) -> StdSink<'a, R>
+        ensures { result.faults ≡ 0 }
+    {
         StdSink { rt, faults: 0 }
     }
 }

@@ -12,6 +12,8 @@ mod read;
 mod script;
 mod status;
 mod stop;
+#[cfg(test)]
+mod tests;
 mod update;
 
 pub use play::{Ended, afs_play, afs_words};

@@ -1,0 +1,177 @@
+// Whole calls, against the answers and the bytes that the formats ask for.
+ghost use Rattle.std.specs.Prelude.{◌≡◌, IfOk, vec_len};
+
+use crate::{Ended, afs_words};
+use drives::{Drives, Half, MemDrives, SureDrives};
+use page_codec::fresh_image;
+use script_text::{MemSink, MemSource};
+use std::alloc::{AllocError, Global};
+use std::test::Fail;
+
+const SAMPLE: &[u8] = b"begin 1\nwrite / 6869\nread /\ncommit\n";
+
+const ANSWERS: &[u8] =
+    b"1.1 base 1\n1.2 ok\n1.3 data 6869\n1.4 committed 2\nfile 1: 1 2\nfile 2: 1\n";
+
+// A half of the new store, with zeros behind its version pages.
+fn new_half(alloc: Global) -> Result<Vec<u8>, AllocError>
+    ensures { IfOk result (λ half. vec_len half ≡ 65536) }
+{
+    let mut half = fresh_image(alloc, 2, 64, 7)?;
+    half.resize(65536, 0)?;
+    Ok(half)
+}
+
+fn sure(alloc: Global) -> Result<SureDrives, Fail> {
+    let a = new_half(alloc)?;
+    let b = new_half(alloc)?;
+    Ok(SureDrives::of_halves(alloc, a, b)?)
+}
+
+// Halves whose calls of these numbers fail.
+fn failing(alloc: Global, calls: &[u64]) -> Result<MemDrives, Fail> {
+    let a = new_half(alloc)?;
+    let b = new_half(alloc)?;
+    let mut drives = MemDrives::of_halves(alloc, a, b)?;
+    drives.fail_at(Vec::from_slice(alloc, calls)?);
+    Ok(drives)
+}
+
+// Plays scripts, of which the first fails at the calls in `source`, into a sink that fails at those in `sink`.
+fn play<V: Drives + Drop>(
+    alloc: Global,
+    word: &str,
+    drives: V,
+    scripts: &[&[u8]],
+    source: &[u64],
+    sink: &[u64],
+) -> Result<(Ended<V>, MemSink), AllocError> {
+    let words = vec![in alloc; String::from_str(alloc, word)?]?;
+    let mut sources = Vec::new(alloc);
+    for script in scripts {
+        let fails = Vec::from_slice(alloc, source)?;
+        sources.push(MemSource::of(Vec::from_slice(alloc, script)?, fails))?;
+    }
+    let mut out = MemSink::of(Vec::new(alloc), Vec::from_slice(alloc, sink)?);
+    let ended = afs_words(alloc, &words, drives, &mut sources, &mut out);
+    Ok((ended, out))
+}
+
+fn has_at(bytes: &[u8], at: usize, expected: &[u8]) -> bool {
+    match bytes.get(at..) {
+        Some(rest) => rest.starts_with(expected),
+        None => false,
+    }
+}
+
+// The second version stands in block 3, and the first names it.
+fn holds_the_update(half: &[u8]) -> bool {
+    has_at(half, 3072, &[0xa5, 0x56, 0, 7])
+        & has_at(half, 3072 + 68, &[0, 2, 0, 0, 0, 1, 0, 0, 0, 0, 0, 0, 0, 2])
+        & has_at(half, 3072 + 82, &[0, 0, 0, 0, 0, 0, 0, 1])
+        & has_at(half, 3072 + 219, b"hi\0")
+        & has_at(half, 1024, &[0xa5, 0x56, 0, 0])
+        & has_at(
+            half,
+            1024 + 70,
+            &[0, 0, 0, 1, 0, 0, 0, 0, 0, 0, 0, 1, 0, 0, 0, 3],
+        )
+}
+
+#[test]
+fn an_update_stands_on_both_halves(rt: HostRuntime) -> Result<(), Fail> {
+    let alloc = rt.alloc();
+    let (ended, out) = play(alloc, "play", sure(alloc)?, &[SAMPLE], &[], &[])?;
+    assert_eq!(rt; ended.status.code(), 0);
+    assert_eq!(rt; out.bytes(), ANSWERS);
+    assert!(rt; holds_the_update(ended.drives.half_bytes(Half::A)));
+    assert!(rt; holds_the_update(ended.drives.half_bytes(Half::B)));
+    Ok(())
+}
+
+#[test]
+fn each_refusal_has_its_line(rt: HostRuntime) -> Result<(), Fail> {
+    let alloc = rt.alloc();
+    let (ended, out) = play(alloc, "run", sure(alloc)?, &[SAMPLE], &[], &[])?;
+    assert_eq!(rt; ended.status.code(), 1);
+    assert_eq!(rt; out.bytes(), b"usage\n".as_slice());
+    let (ended, out) = play(alloc, "play", sure(alloc)?, &[SAMPLE, SAMPLE], &[], &[])?;
+    assert_eq!(rt; ended.status.code(), 1);
+    assert_eq!(rt; out.bytes(), b"usage\n".as_slice());
+    let (ended, out) = play(
+        alloc,
+        "play",
+        sure(alloc)?,
+        &[b"begin 2\ncommit\n"],
+        &[],
+        &[],
+    )?;
+    assert_eq!(rt; ended.status.code(), 2);
+    assert_eq!(rt; out.bytes(), b"script 1 unbuilt\n".as_slice());
+    let (ended, out) = play(
+        alloc,
+        "play",
+        SureDrives::blank(alloc, 64)?,
+        &[SAMPLE],
+        &[],
+        &[],
+    )?;
+    assert_eq!(rt; ended.status.code(), 4);
+    assert_eq!(rt; out.bytes(), b"bad store: unbuilt\n".as_slice());
+    let (ended, out) = play(alloc, "play", sure(alloc)?, &[SAMPLE], &[1], &[])?;
+    assert_eq!(rt; ended.status.code(), 6);
+    assert_eq!(rt; out.bytes(), b"source 1\n".as_slice());
+    Ok(())
+}
+
+#[test]
+fn a_fault_is_told_with_what_was_answered(rt: HostRuntime) -> Result<(), Fail> {
+    let alloc = rt.alloc();
+    let (ended, out) = play(alloc, "play", failing(alloc, &[2])?, &[SAMPLE], &[], &[])?;
+    assert_eq!(rt; ended.status.code(), 3);
+    assert_eq!(rt; out.bytes(), b"drive A\n".as_slice());
+    // Calls 1 and 2 read the halves, 3 to 6 write the new page, and 7 begins to link it.
+    let (ended, out) = play(alloc, "play", failing(alloc, &[7])?, &[SAMPLE], &[], &[])?;
+    assert_eq!(rt; ended.status.code(), 3);
+    assert_eq!(rt;
+        out.bytes(),
+        b"1.1 base 1\n1.2 ok\n1.3 data 6869\ndrive B\n".as_slice()
+    );
+    assert!(rt; ended.journal.doubt.is_some());
+    let (ended, out) = play(alloc, "play", sure(alloc)?, &[SAMPLE], &[], &[3])?;
+    assert_eq!(rt; ended.status.code(), 5);
+    assert_eq!(rt; out.bytes(), b"1.1 base 1\n1.2 ok\n".as_slice());
+    assert!(rt; holds_the_update(ended.drives.half_bytes(Half::B)));
+    Ok(())
+}
+
+#[test]
+fn the_longest_update_and_an_empty_one(rt: HostRuntime) -> Result<(), Fail> {
+    let alloc = rt.alloc();
+    let mut script = Vec::from_slice(alloc, b"begin 1\n")?;
+    for _ in 0..128 {
+        script.extend_from_slice(b"write / 00\n")?;
+    }
+    script.extend_from_slice(b"commit\n")?;
+    let (ended, out) = play(alloc, "play", sure(alloc)?, &[&script], &[], &[])?;
+    assert_eq!(rt; ended.status.code(), 0);
+    assert_eq!(rt; ended.journal.entries.len(), 133);
+    assert!(rt;
+        out.bytes()
+            .ends_with(b"1.130 committed 2\nfile 1: 1 2\nfile 2: 1\n")
+    );
+    let (ended, out) = play(
+        alloc,
+        "play",
+        sure(alloc)?,
+        &[b"begin 1\nread /\ncommit\n"],
+        &[],
+        &[],
+    )?;
+    assert_eq!(rt; ended.status.code(), 0);
+    assert_eq!(rt;
+        out.bytes(),
+        b"1.1 base 1\n1.2 data -\n1.3 committed 1\nfile 1: 1\nfile 2: 1\n".as_slice()
+    );
+    Ok(())
+}
