@@ -6,6 +6,7 @@ use drives::{Drives, Half, MemDrives, SureDrives};
 use page_codec::fresh_image;
 use script_text::{MemSink, MemSource};
 use std::alloc::{AllocError, Global};
+use std::process::Abort;
 use std::test::Fail;
 
 const SAMPLE: &[u8] = b"begin 1\nwrite / 6869\nread /\ncommit\n";
@@ -25,6 +26,14 @@ fn new_half(alloc: Global) -> Result<Vec<u8>, AllocError>
 fn sure(alloc: Global) -> Result<SureDrives, Fail> {
     let a = new_half(alloc)?;
     let b = new_half(alloc)?;
+    Ok(SureDrives::of_halves(alloc, a, b)?)
+}
+
+// The new store with one byte changed on half A, in the version page of file 2.
+fn changed(alloc: Global) -> Result<SureDrives, Fail> {
+    let mut a = new_half(alloc)?;
+    let b = new_half(alloc)?;
+    a[2248] = 1;
     Ok(SureDrives::of_halves(alloc, a, b)?)
 }
 
@@ -78,75 +87,103 @@ fn holds_the_update(half: &[u8]) -> bool {
         )
 }
 
+// Plays a script and looks at the status and at what was printed.
+fn ends<V: Drives + Drop>(
+    rt: &impl Abort,
+    alloc: Global,
+    drives: V,
+    script: &[u8],
+    fails: (&[u64], &[u64]),
+    expected: (u8, &[u8]),
+) -> Result<Ended<V>, AllocError> {
+    let (ended, out) = play(alloc, "play", drives, &[script], fails.0, fails.1)?;
+    assert_eq!(rt; ended.status.code(), expected.0);
+    assert_eq!(rt; out.bytes(), expected.1);
+    Ok(ended)
+}
+
 #[test]
 fn an_update_stands_on_both_halves(rt: HostRuntime) -> Result<(), Fail> {
     let alloc = rt.alloc();
-    let (ended, out) = play(alloc, "play", sure(alloc)?, &[SAMPLE], &[], &[])?;
-    assert_eq!(rt; ended.status.code(), 0);
-    assert_eq!(rt; out.bytes(), ANSWERS);
+    let ended = ends(&rt, alloc, sure(alloc)?, SAMPLE, (&[], &[]), (0, ANSWERS))?;
     assert!(rt; holds_the_update(ended.drives.half_bytes(Half::A)));
     assert!(rt; holds_the_update(ended.drives.half_bytes(Half::B)));
     Ok(())
 }
 
 #[test]
-fn each_refusal_has_its_line(rt: HostRuntime) -> Result<(), Fail> {
+fn other_words_are_no_command(rt: HostRuntime) -> Result<(), Fail> {
     let alloc = rt.alloc();
-    let (ended, out) = play(alloc, "run", sure(alloc)?, &[SAMPLE], &[], &[])?;
-    assert_eq!(rt; ended.status.code(), 1);
-    assert_eq!(rt; out.bytes(), b"usage\n".as_slice());
-    let (ended, out) = play(alloc, "play", sure(alloc)?, &[SAMPLE, SAMPLE], &[], &[])?;
-    assert_eq!(rt; ended.status.code(), 1);
-    assert_eq!(rt; out.bytes(), b"usage\n".as_slice());
-    let (ended, out) = play(
-        alloc,
-        "play",
-        sure(alloc)?,
-        &[b"begin 2\ncommit\n"],
-        &[],
-        &[],
-    )?;
-    assert_eq!(rt; ended.status.code(), 2);
-    assert_eq!(rt; out.bytes(), b"script 1 unbuilt\n".as_slice());
-    let (ended, out) = play(
-        alloc,
-        "play",
-        SureDrives::blank(alloc, 64)?,
-        &[SAMPLE],
-        &[],
-        &[],
-    )?;
-    assert_eq!(rt; ended.status.code(), 4);
-    assert_eq!(rt; out.bytes(), b"bad store: unbuilt\n".as_slice());
-    let (ended, out) = play(alloc, "play", sure(alloc)?, &[SAMPLE], &[1], &[])?;
-    assert_eq!(rt; ended.status.code(), 6);
-    assert_eq!(rt; out.bytes(), b"source 1\n".as_slice());
+    for (word, scripts) in [
+        ("run", [SAMPLE].as_slice()),
+        ("play", [SAMPLE, SAMPLE].as_slice()),
+    ] {
+        let (ended, out) = play(alloc, word, sure(alloc)?, scripts, &[], &[])?;
+        assert_eq!(rt; ended.status.code(), 1);
+        assert_eq!(rt; out.bytes(), b"usage\n".as_slice());
+    }
     Ok(())
 }
 
 #[test]
-fn a_fault_is_told_with_what_was_answered(rt: HostRuntime) -> Result<(), Fail> {
+fn each_refusal_has_its_line(rt: HostRuntime) -> Result<(), Fail> {
     let alloc = rt.alloc();
-    let (ended, out) = play(alloc, "play", failing(alloc, &[2])?, &[SAMPLE], &[], &[])?;
-    assert_eq!(rt; ended.status.code(), 3);
-    assert_eq!(rt; out.bytes(), b"drive A\n".as_slice());
+    let expected = (2, b"script 1 unbuilt\n".as_slice());
+    let _ = ends(
+        &rt,
+        alloc,
+        sure(alloc)?,
+        b"begin 2\ncommit\n",
+        (&[], &[]),
+        expected,
+    )?;
+    let expected = (4, b"bad store: unbuilt\n".as_slice());
+    let _ = ends(&rt, alloc, changed(alloc)?, SAMPLE, (&[], &[]), expected)?;
+    let expected = (6, b"source 1\n".as_slice());
+    let _ = ends(&rt, alloc, sure(alloc)?, SAMPLE, (&[1], &[]), expected)?;
+    Ok(())
+}
+
+#[test]
+fn a_fault_of_a_half_is_told_with_what_was_answered(rt: HostRuntime) -> Result<(), Fail> {
+    let alloc = rt.alloc();
+    let expected = (3, b"drive A\n".as_slice());
+    let _ = ends(
+        &rt,
+        alloc,
+        failing(alloc, &[2])?,
+        SAMPLE,
+        (&[], &[]),
+        expected,
+    )?;
     // Calls 1 and 2 read the halves, 3 to 6 write the new page, and 7 begins to link it.
-    let (ended, out) = play(alloc, "play", failing(alloc, &[7])?, &[SAMPLE], &[], &[])?;
-    assert_eq!(rt; ended.status.code(), 3);
-    assert_eq!(rt;
-        out.bytes(),
-        b"1.1 base 1\n1.2 ok\n1.3 data 6869\ndrive B\n".as_slice()
+    let expected = (
+        3,
+        b"1.1 base 1\n1.2 ok\n1.3 data 6869\ndrive B\n".as_slice(),
     );
+    let ended = ends(
+        &rt,
+        alloc,
+        failing(alloc, &[7])?,
+        SAMPLE,
+        (&[], &[]),
+        expected,
+    )?;
     assert!(rt; ended.journal.doubt.is_some());
-    let (ended, out) = play(alloc, "play", sure(alloc)?, &[SAMPLE], &[], &[3])?;
-    assert_eq!(rt; ended.status.code(), 5);
-    assert_eq!(rt; out.bytes(), b"1.1 base 1\n1.2 ok\n".as_slice());
+    Ok(())
+}
+
+#[test]
+fn a_fault_of_the_sink_leaves_the_update(rt: HostRuntime) -> Result<(), Fail> {
+    let alloc = rt.alloc();
+    let expected = (5, b"1.1 base 1\n1.2 ok\n".as_slice());
+    let ended = ends(&rt, alloc, sure(alloc)?, SAMPLE, (&[], &[3]), expected)?;
     assert!(rt; holds_the_update(ended.drives.half_bytes(Half::B)));
     Ok(())
 }
 
 #[test]
-fn the_longest_update_and_an_empty_one(rt: HostRuntime) -> Result<(), Fail> {
+fn the_longest_update(rt: HostRuntime) -> Result<(), Fail> {
     let alloc = rt.alloc();
     let mut script = Vec::from_slice(alloc, b"begin 1\n")?;
     for _ in 0..128 {
@@ -160,18 +197,23 @@ fn the_longest_update_and_an_empty_one(rt: HostRuntime) -> Result<(), Fail> {
         out.bytes()
             .ends_with(b"1.130 committed 2\nfile 1: 1 2\nfile 2: 1\n")
     );
-    let (ended, out) = play(
-        alloc,
-        "play",
-        sure(alloc)?,
-        &[b"begin 1\nread /\ncommit\n"],
-        &[],
-        &[],
-    )?;
-    assert_eq!(rt; ended.status.code(), 0);
-    assert_eq!(rt;
-        out.bytes(),
-        b"1.1 base 1\n1.2 data -\n1.3 committed 1\nfile 1: 1\nfile 2: 1\n".as_slice()
+    Ok(())
+}
+
+#[test]
+fn an_update_that_writes_nothing(rt: HostRuntime) -> Result<(), Fail> {
+    let alloc = rt.alloc();
+    let expected = (
+        0,
+        b"1.1 base 1\n1.2 data -\n1.3 committed 1\nfile 1: 1\nfile 2: 1\n".as_slice(),
     );
+    let _ = ends(
+        &rt,
+        alloc,
+        sure(alloc)?,
+        b"begin 1\nread /\ncommit\n",
+        (&[], &[]),
+        expected,
+    )?;
     Ok(())
 }
