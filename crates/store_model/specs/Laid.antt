@@ -1,0 +1,46 @@
+-- Versions and files as they lie in blocks.
+use Rattle.std.specs.Prelude.{ℕ, ◌-◌, Bool, false, ◌&&◌, nat_eq, List, map, filter, length, Option, slice_get}
+use Rattle.std.specs.List.{list_any}
+use Rattle.ref_flags.specs.Flagged.{Flagged}
+use Rattle.page_codec.specs.Values.{MemberValue, EntryValue}
+use Rattle.std.specs.Cmp.Lexicographic.{pointwise}
+use Rattle.afs_base.specs.Path.{is_prefix}
+
+-- A page of a version: its path, its block, the marks of the reference to it, its mask of modified slots, its data,
+-- and whether the block is its version's own or is shared with the version before.
+pub record Node : Type 0 where
+  pub path : List ℕ
+  pub block : ℕ
+  pub flags : Flagged
+  pub modified : ℕ
+  pub bytes : List ℕ
+  pub is_own : Bool
+
+-- a version: its serial, its block, the block of the next version, its members, and its pages in the order of their paths
+pub record LaidVersion : Type 0 where
+  pub serial : ℕ
+  pub block : ℕ
+  pub commit : Option ℕ
+  pub members : List MemberValue
+  pub nodes : List Node
+
+-- a file: its entry in the table and its versions, the oldest first
+pub record LaidFile : Type 0 where
+  pub entry : EntryValue
+  pub versions : List LaidVersion
+
+-- the page of another version
+abbrev pub as_shared : Node → Node
+as_shared node = record node { is_own = false }
+
+-- the pages at a path and below it, as a later version shares them
+abbrev pub shared_from : List ℕ → List Node → List Node
+shared_from path nodes = map as_shared (filter (λ node. is_prefix path node.path) nodes)
+
+-- the page at a path is in this block
+abbrev pub lies_at : List ℕ → ℕ → List Node → Bool
+lies_at path block nodes = list_any (λ node. pointwise nat_eq path node.path && nat_eq node.block block) nodes
+
+-- the last of these versions
+abbrev pub last_laid : List LaidVersion → Option LaidVersion
+last_laid versions = slice_get versions (length versions - 1)

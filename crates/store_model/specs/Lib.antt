@@ -1,0 +1,10 @@
+pub mod Walk
+pub mod Laid
+pub mod Pages
+pub mod Chains
+pub mod Tables
+pub mod Members
+pub mod Found
+pub mod Places
+pub mod Laws
+pub mod Examples
