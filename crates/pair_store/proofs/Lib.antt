@@ -1,0 +1,9 @@
+pub mod Relations
+pub mod GateLemmas
+pub mod HalfWriting
+pub mod Contents
+pub mod BothWriting
+pub mod SettledLaws
+pub mod ReadCauses
+pub mod VersionLaws
+pub mod PageWriting

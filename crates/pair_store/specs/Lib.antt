@@ -1,0 +1,10 @@
+pub mod Content
+pub mod ContentLaws
+pub mod Stages
+pub mod Blocks
+pub mod Faults
+pub mod Pages
+pub mod Edits
+pub mod Answers
+pub mod Found
+pub mod PairLaws

@@ -1,0 +1,22 @@
+//! Blocks on two halves of which one may be torn: each write leaves the old content or the new one, wherever a crash falls.
+#![tactic(auto)]
+
+mod both;
+mod content_read;
+mod content_write;
+mod fault;
+mod gates;
+mod half_write;
+mod on_halves;
+mod outcome;
+mod read;
+mod steps;
+mod store;
+mod version_edit;
+
+pub use both::write_both;
+pub use fault::PairFault;
+pub use on_halves::Pair;
+pub use outcome::{Mended, Tas};
+pub use page_codec::Block;
+pub use store::Blocks;

@@ -1,0 +1,144 @@
+// Two halves as a store of blocks.
+ghost use Rattle.std.specs.Prelude.{◌≡◌, ℕ, ◌+◌, ◌-◌, ◌*◌, ◌^◌, ◌<◌, ◌≤◌};
+ghost use Rattle.drives.specs.declared.device.Half.{Half};
+ghost use Rattle.drives.specs.Changes.{halves_seen};
+ghost use Rattle.pair_store.specs.Content.{ContentsLeft, IsSettled, IsSettledAlways, content_of};
+
+use afs_base::BlockNo;
+use drives::Drives;
+
+use crate::Block;
+use crate::content_read::read_content;
+use crate::content_write::write_content;
+use crate::fault::PairFault;
+use crate::outcome::Tas;
+use crate::store::Blocks;
+use crate::version_edit::{drop_members, set_commit};
+
+/// Two halves that keep each block twice, and the number of operations on them.
+#[derive(Drop)]
+pub struct Pair<V> {
+    drives: V,
+    operations: u64,
+}
+
+impl<V: Drives> Pair<V> {
+    /// A pair on these drives, with no operation yet. It makes no call of them.
+    pub fn over(drives: V) -> Pair<V>
+        ensures drives { result.drives ≡ drives }
+        ensures operations { result.operations ≡ 0 }
+    {
+        Pair {
+            drives,
+            operations: 0,
+        }
+    }
+
+    /// The drives, as they are.
+    pub fn into_drives(self) -> V
+        ensures { result ≡ self.drives }
+    {
+        let Pair {
+            drives,
+            operations: _,
+        } = self;
+        drives
+    }
+
+    /// The drives, for their counts of faults and the moments of their last ones.
+    pub fn faults_of(&self) -> &V
+        ensures { result.now ≡ self.now.drives }
+    {
+        &self.drives
+    }
+}
+
+impl<V: Drives> Blocks for Pair<V> {
+    ghost tells = { V.tells };
+
+    ghost size = { λ p. V.size p.drives };
+
+    ghost moment = { λ p. V.moment p.drives };
+
+    ghost count = { λ p. p.operations };
+
+    ghost content = { λ p. content_of (halves_seen V.seen p.drives) };
+
+    ghost may_leave = { λ p. ContentsLeft V.may_leave p.drives };
+
+    ghost settled = { λ p n. IsSettled n (halves_seen V.seen p.drives) };
+
+    ghost settled_always = { λ p n. IsSettledAlways V.may_leave p.drives (V.moment p.drives) n };
+
+    ghost faults = { λ p. V.faults p.drives };
+
+    ghost last_fault = { λ p. V.last_fault p.drives };
+
+    fn blocks(&self) -> u32 {
+        self.drives.blocks()
+    }
+
+    fn now(&self) -> u64 {
+        self.drives.now()
+    }
+
+    fn operations(&self) -> u64 {
+        self.operations
+    }
+
+    fn read(&mut self, n: BlockNo, into: &mut Block) -> Result<(), PairFault> {
+        self.operations = self.operations.saturating_add(1);
+        read_content(&mut self.drives, n, into)
+    }
+
+    fn write(&mut self, n: BlockNo, body: &Block) -> Result<(), PairFault> {
+        self.operations = self.operations.saturating_add(1);
+        write_content(&mut self.drives, n, body)
+    }
+
+    fn test_and_set(&mut self, n: BlockNo, next: BlockNo) -> Result<Tas, PairFault> {
+        self.operations = self.operations.saturating_add(1);
+        let mut block = [0; 1024];
+        read_content(&mut self.drives, n, &mut block)?;
+        match set_commit(&mut block, next) {
+            Ok(Tas::Set) => {
+                write_content(&mut self.drives, n, &block)?;
+                Ok(Tas::Set)
+            }
+            Ok(taken) => Ok(taken),
+            Err(e) => Err(PairFault::BadPage {
+                block: n,
+                why: e.why,
+            }),
+        }
+    }
+
+    fn clear_members(&mut self, n: BlockNo) -> Result<(), PairFault> {
+        self.operations = self.operations.saturating_add(1);
+        let mut block = [0; 1024];
+        read_content(&mut self.drives, n, &mut block)?;
+        match drop_members(&mut block) {
+            Ok(()) => write_content(&mut self.drives, n, &block),
+            Err(e) => Err(PairFault::BadPage {
+                block: n,
+                why: e.why,
+            }),
+        }
+    }
+
+    ghost use Rattle.pair_store.specs.PairLaws.{content_whole, left_content, settled_content, settled_now};
+
+    ghost some = { λ p. V.some p.drives };
+
+    ghost clock = { λ p. V.clock p.drives };
+
+    ghost fault_past = { λ p. V.fault_past p.drives };
+
+    ghost whole = { λ p n body tells low is. content_whole n body (halves_seen V.seen p.drives) (V.size p.drives) (V.whole p.drives Half.A tells) (V.whole p.drives Half.B tells) low is };
+
+    ghost left_read = { λ p tells. left_content V.may_leave p.drives (V.moment p.drives) (halves_seen V.seen p.drives) (V.left_read p.drives Half.A tells) (V.left_read p.drives Half.B tells) };
+
+    ghost settled_now = { λ p n tells settled. settled_now V.may_leave p.drives (V.moment p.drives) (halves_seen V.seen p.drives) (V.left_read p.drives Half.A tells) (V.left_read p.drives Half.B tells) n settled };
+
+    ghost settled_left = { λ p n f tells settled left. settled_content V.may_leave p.drives (V.moment p.drives) (halves_seen V.seen p.drives) (V.left_read p.drives Half.A tells) (V.left_read p.drives Half.B tells) n f settled left };
+}
