@@ -1,0 +1,7 @@
+pub mod Facts
+pub mod Ways
+pub mod Marks
+pub mod Moves
+pub mod Shapes
+pub mod Runs
+pub mod Feeding

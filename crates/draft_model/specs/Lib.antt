@@ -1,0 +1,5 @@
+pub mod Places
+pub mod Views
+pub mod Steps
+pub mod Stands
+pub mod Laws

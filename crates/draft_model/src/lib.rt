@@ -1,0 +1,6 @@
+//! What a draft is: trees of pages in blocks, what a draft shows, and what it then stands for.
+#![tactic(auto)]
+
+mod laws;
+
+pub use laws::{begin_law, feed_law, step_law};
