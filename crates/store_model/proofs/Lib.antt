@@ -1,2 +1,7 @@
 pub mod Steps
 pub mod Locality
+pub mod Giving
+pub mod Finding
+pub mod Reading
+pub mod Lying
+pub mod Held

@@ -8,9 +8,9 @@ use Rattle.page_codec.specs.Blank.{no_entry}
 use Rattle.page_codec.specs.Causes.{page_of, version_of}
 use Rattle.page_codec.specs.TableReading.{part_of, root_of}
 use Rattle.store_model.specs.Walk.{Blocks, bind, done, refuse, check, decoded, content_at, is_new, place}
-use Rattle.store_model.specs.Laid.{Node, LaidVersion, LaidFile, shared_from, lies_at}
+use Rattle.store_model.specs.Laid.{Node, LaidVersion, LaidFile, is_block, shared_from, lies_at}
 use Rattle.store_model.specs.Pages.{page_at, own_node, Below, own_from, named_from, slot_from, slots_from, pages_below}
-use Rattle.store_model.specs.Chains.{follows, is_block, has_no_members, version_at, chain_from, chain_at}
+use Rattle.store_model.specs.Chains.{follows, has_no_members, version_at, chain_from, chain_at}
 use Rattle.store_model.specs.Tables.{Row, rows_in, part_rows, parts_from, table_rows, files_from}
 use Rattle.store_model.specs.Members.{Top, Linked, names_none, tops_from, last_in, with_version_at, version_linked, member_linked, members_linked, tops_linked}
 use Rattle.store_model.specs.Found.{LaidStore, laid_from, laid}

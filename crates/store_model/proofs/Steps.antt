@@ -5,7 +5,7 @@ use Rattle.page_codec.specs.declared.why.Why.{Why}
 use Rattle.page_codec.specs.declared.why.Why.TheVariants.{Closed, Seen}
 use Rattle.store_model.specs.Walk.{Walk, Refused, and_then, bind, done, refuse, check, decoded, content_at, if_some, is_new, add}
 
-ok≢err : {X : Type 0} {e : Refused} {x : X} → (let r : Result X Refused = Err e in r) ≡ Ok x → ⊥
+pub ok≢err : {X : Type 0} {e : Refused} {x : X} → (let r : Result X Refused = Err e in r) ≡ Ok x → ⊥
 ok≢err h = cc
 
 -- the contents of a block, by number

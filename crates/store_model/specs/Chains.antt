@@ -1,16 +1,12 @@
 -- The versions of a file, each one named by the commit reference of the one before.
-use Rattle.std.specs.Prelude.{ℕ, zero, suc, ◌+◌, ◌==◌, Bool, true, false, ◌||◌, nat_eq, List, [], ◌∷◌, length, Option, Some, None, option_map}
-use Rattle.std.specs.Option.{is_none, option_map_or}
+use Rattle.std.specs.Prelude.{ℕ, zero, suc, ◌+◌, ◌==◌, Bool, true, ◌||◌, List, [], ◌∷◌, length, Option, Some, None, option_map}
+use Rattle.std.specs.Option.{is_none}
 use Rattle.page_codec.specs.declared.why.Why.TheVariants.{Object, Serial, Base, Code, Member}
 use Rattle.page_codec.specs.Values.{VersionValue}
 use Rattle.page_codec.specs.Causes.{version_of}
 use Rattle.store_model.specs.Walk.{Blocks, Walk, ◌>>=◌, ◌>>◌, done, check, decoded, place, if_some}
-use Rattle.store_model.specs.Laid.{Node, LaidVersion}
+use Rattle.store_model.specs.Laid.{Node, LaidVersion, is_block}
 use Rattle.store_model.specs.Pages.{own_node, pages_below}
-
--- the block is this one
-abbrev pub is_block : ℕ → Option ℕ → Bool
-is_block block named = option_map_or (nat_eq block) named false
 
 -- A version after the first has the next serial, names the block of the one before, and its root was copied.
 unfoldable pub follows : ℕ → VersionValue → Option LaidVersion → Walk Bool

@@ -1,10 +1,10 @@
 -- Versions and files as they lie in blocks.
-use Rattle.std.specs.Prelude.{ℕ, ◌-◌, Bool, false, ◌&&◌, nat_eq, List, map, filter, length, Option, slice_get}
-use Rattle.std.specs.List.{list_any}
+use Rattle.std.specs.Prelude.{ℕ, ◌-◌, Bool, false, nat_eq, List, map, filter, find, length, Option, option_map, slice_get}
 use Rattle.ref_flags.specs.Flagged.{Flagged}
 use Rattle.page_codec.specs.Values.{MemberValue, EntryValue}
-use Rattle.std.specs.Cmp.Lexicographic.{pointwise}
+use Rattle.std.specs.Option.{option_map_or}
 use Rattle.afs_base.specs.Path.{is_prefix}
+use Rattle.draft_model.specs.Places.{same}
 
 -- A page of a version: its path, its block, the marks of the reference to it, its mask of modified slots, its data,
 -- and whether the block is its version's own or is shared with the version before.
@@ -37,9 +37,21 @@ as_shared node = record node { is_own = false }
 abbrev pub shared_from : List ℕ → List Node → List Node
 shared_from path nodes = map as_shared (filter (λ node. is_prefix path node.path) nodes)
 
+-- the page at a path
+abbrev pub page_in : List ℕ → List Node → Option Node
+page_in path nodes = find (λ node. same path node.path) nodes
+
+-- the block of the page at a path
+abbrev pub block_in : List ℕ → List Node → Option ℕ
+block_in path nodes = option_map (λ node. node.block) (page_in path nodes)
+
+-- the block is this one
+abbrev pub is_block : ℕ → Option ℕ → Bool
+is_block block named = option_map_or (nat_eq block) named false
+
 -- the page at a path is in this block
 abbrev pub lies_at : List ℕ → ℕ → List Node → Bool
-lies_at path block nodes = list_any (λ node. pointwise nat_eq path node.path && nat_eq node.block block) nodes
+lies_at path block nodes = is_block block (block_in path nodes)
 
 -- the last of these versions
 abbrev pub last_laid : List LaidVersion → Option LaidVersion

@@ -1,16 +1,10 @@
 -- In which block the page of a version lies, and with which marks.
-use Rattle.std.specs.Prelude.{ℕ, ◌-◌, nat_eq, ◌==◌, Bool, List, [], ◌∷◌, Option, Some, None, option_map, Result, Ok, Err, slice_get, if◌then◌else◌}
+use Rattle.std.specs.Prelude.{ℕ, ◌-◌, ◌==◌, List, [], find, Option, Some, None, option_map, Result, Ok, Err, slice_get, if◌then◌else◌}
 use Rattle.std.specs.Option.{option_and_then}
-use Rattle.std.specs.Cmp.Lexicographic.{pointwise}
 use Rattle.ref_flags.specs.Codes.{code_of}
 use Rattle.store_model.specs.Walk.{Refused}
-use Rattle.store_model.specs.Laid.{Node, LaidFile}
+use Rattle.store_model.specs.Laid.{Node, LaidFile, page_in}
 use Rattle.store_model.specs.Found.{LaidStore, laid}
-
--- the first of a list with a property
-abbrev pub first_such : {X : Type 0} → (X → Bool) → List X → Option X
-first_such test [] = None
-first_such test (x ∷ xs) = if test x then Some x else first_such test xs
 
 -- the store, where the walk found one
 abbrev pub store_in : Result (LaidStore × List ℕ) Refused → Option LaidStore
@@ -25,9 +19,9 @@ file_at object store = if object == 0 then None else slice_get store.files (obje
 abbrev pub node_at : (ℕ → Option (List ℕ)) → ℕ → ℕ → ℕ → List ℕ → Option Node
 node_at content most object serial path =
     option_and_then
-    (λ version. first_such (λ node. pointwise nat_eq path node.path) version.nodes)
+    (λ version. page_in path version.nodes)
     (option_and_then
-    (λ file. first_such (λ version. version.serial == serial) file.versions)
+    (λ file. find (λ version. version.serial == serial) file.versions)
     (option_and_then (file_at object) (store_in (laid content most []))))
 
 -- the block that holds that page
