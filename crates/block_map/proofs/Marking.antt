@@ -1,5 +1,5 @@
 -- Changes of a map that is sound.
-use Rattle.std.proofs.Common.{◌≡◌, ℕ, ◌+◌, ◌-◌, ◌<◌, ◌≤◌, ◌≢◌, min, true, cond, List, length, take, set, refl, sym, ◌∙◌, ap, inl, inr, arith}
+use Rattle.std.proofs.Common.{◌≡◌, ℕ, ◌+◌, ◌-◌, ◌<◌, ◌≤◌, ◌≢◌, min, true, false, cond, List, length, take, set, sym, ◌∙◌, ap, inl, inr, arith}
 use Rattle.std.specs.List.{slice_get}
 use Rattle.std.specs.Prelude.{Some}
 use Rattle.std.proofs.lemmas.List.{length-set, get_or-set_other, take-set-le}
@@ -7,7 +7,7 @@ use Rattle.std.proofs.lemmas.Bool.{cases_lt, both_ways}
 use Rattle.std.proofs.lemmas.Option.{none-some, slice_get_past}
 use Rattle.block_map.specs.declared.states.BlockState.{BlockState}
 use Rattle.block_map.specs.declared.states.BlockState.TheVariants.{Free, Kept}
-use Rattle.block_map.specs.States.{is_free, is_held, state_at, free_count, free_below, held_count, IsSound, Replaces}
+use Rattle.block_map.specs.States.{is_free, is_held, state_at, free_count, free_below, held_count, held_below, IsSound, Replaces}
 use Rattle.block_map.proofs.Counting.{one, count_by-take-mono}
 use Rattle.block_map.proofs.Taking.{none_at, count-give}
 use Rattle.block_map.proofs.Replacing.{Replaces-take, free_count-keep, free_count-give_back}
@@ -27,15 +27,26 @@ IsSound-keep client free least old new r s = record {
   none_below = free_count-keep client (take least old) (take least new) (Replaces-take client Kept old new least r) ∙ s.none_below;
 }
 
-pub IsSound-give_back : (client free least : ℕ) (old new : List BlockState) (count : ℕ) → Replaces client Free old new
-    → IsSound old free least → count ≡ held_count client old → IsSound new (free + count) 0
-IsSound-give_back client free least old new count r s held = record {
-  table = table_stays client Free old new r s.table;
-  some = omega (arith, r.size, s.some);
-  most = omega (arith, r.size, s.most);
-  count = omega (arith, s.count, held, free_count-give_back client old new r);
-  none_below = refl;
-}
+-- given back, no block is free below both the old place and the first block that the client held
+pub IsSound-give_back : (client free least first : ℕ) (old new : List BlockState) (count : ℕ) → Replaces client Free old new
+    → IsSound old free least → held_below client old first ≡ 0 → count ≡ held_count client old
+    → IsSound new (free + count) (min least first)
+IsSound-give_back client free least first old new count r s none held =
+    let m = min least first in
+    record {
+      table = table_stays client Free old new r s.table;
+      some = omega (arith, r.size, s.some);
+      most = omega (arith, r.size, s.most);
+      count = omega (arith, s.count, held, free_count-give_back client old new r);
+      none_below = omega (
+        arith,
+        free_count-give_back client (take m old) (take m new) (Replaces-take client Free old new m r),
+        count_by-take-mono is_free old m least (omega arith),
+        count_by-take-mono (is_held client) old m first (omega arith),
+        s.none_below,
+        none,
+      );
+    }
 
 -- a free block is not below the place that is kept
 least-le : (xs : List BlockState) (n least : ℕ) → free_below xs least ≡ 0 → is_free (state_at xs n) ≡ true → least ≤ n
@@ -75,6 +86,22 @@ IsSound-free xs n free least s h other is = record {
     s.none_below,
   );
 }
+
+-- one block from free to kept
+pub free_count-mark : (xs : List BlockState) (n : ℕ) → n < length xs → state_at xs n ≡ Free
+    → free_count (set xs n Kept) + 1 ≡ free_count xs
+free_count-mark xs n h is = omega (arith, count-give is_free xs n Kept h, ap (λ b. one (is_free b)) is)
+
+-- and from kept to free
+pub free_count-free : (xs : List BlockState) (n : ℕ) → n < length xs → state_at xs n ≡ Kept
+    → free_count (set xs n Free) ≡ free_count xs + 1
+free_count-free xs n h is = omega (arith, count-give is_free xs n Free h, ap (λ b. one (is_free b)) is)
+
+-- neither of which a client holds
+pub held_count-set : (c : ℕ) (xs : List BlockState) (n : ℕ) (was by : BlockState) → n < length xs → state_at xs n ≡ was
+    → is_held c was ≡ false → is_held c by ≡ false → held_count c (set xs n by) ≡ held_count c xs
+held_count-set c xs n was by h is none none' =
+    omega (arith, count-give (is_held c) xs n by h, ap (λ b. one (is_held c b)) is, ap one none, ap one none')
 
 -- an element that is found is within the list
 pub slice_get-lt : {X : Type 0} (xs : List X) (n : ℕ) (x : X) → slice_get xs n ≡ Some x → n < length xs

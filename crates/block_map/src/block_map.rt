@@ -2,7 +2,7 @@ ghost use Rattle.std.specs.Prelude.{◌≡◌, ◌≢◌, ◌+◌, ◌-◌, ◌<
 ghost use Rattle.block_map.specs.States.{free_count, held_count, held_below, state_at, TakesLeast, Replaces};
 ghost use Rattle.block_map.specs.declared.states.BlockState.TheVariants.{Free, Held, Kept};
 
-use crate::states::{BlockState, is_held, replace_held, take_least};
+use crate::states::{BlockState, first_held, is_held, replace_held, take_least};
 use afs_base::{BlockNo, ClientNo};
 use std::alloc::{AllocError, Global};
 use std::marker::Model;
@@ -75,19 +75,21 @@ impl BlockMap {
     /// Marks a free block as kept.
     pub fn mark_kept(&mut self, n: BlockNo)
         requires { slice_get self.old n ≡ Some Free }
-        ensures { self.new ≡ slice_set self.old n Kept }
+        ensures states { self.new ≡ slice_set self.old n Kept }
+        ensures free { free_count self.new + 1 ≡ free_count self.old }
+        ensures held { (c : ℕ) → held_count c self.new ≡ held_count c self.old }
     {
         self.states[n.get() as usize] = BlockState::Kept;
         self.free -= 1;
     }
 
-    /// Gives the client the `n` least free blocks, or changes nothing where fewer are free.
+    /// Gives the client the `n` least free blocks, or changes nothing where fewer are free. It looks at no block twice, nor
+    /// at one below which none can be free.
     pub fn hold(&mut self, client: ClientNo, n: u32) -> Result<(), NoSpace>
         requires { held_count client self.old ≡ 0 }
         ensures room { IsOk result ↔ (n ≤ free_count self.old) }
         ensures no_space { IfErr result (λ e. e ≡ record { needed = n; free = free_count self.old }) }
         ensures err { OnErr result (self.new ≡ self.old) }
-
         ensures ok { OnOk result (TakesLeast client n self.old self.new) }
         ensures free { OnOk result (free_count self.new + n ≡ free_count self.old) }
         ensures held { OnOk result (held_count client self.new ≡ n) }
@@ -130,16 +132,19 @@ impl BlockMap {
         ensures held { held_count client self.new ≡ 0 }
         ensures others { (c : ℕ) → c ≢ client → held_count c self.new ≡ held_count c self.old }
     {
+        let first = first_held(&self.states, client);
         let count = replace_held(&mut self.states, client, &BlockState::Free);
         self.free += count as u32;
-        self.least = 0;
+        self.least = self.least.min(first);
     }
 
     /// Turns a kept block other than the table into a free one.
     pub fn free_kept(&mut self, n: BlockNo)
         requires kept { slice_get self.old n ≡ Some Kept }
         requires not_table { n ≢ 0 }
-        ensures { self.new ≡ slice_set self.old n Free }
+        ensures states { self.new ≡ slice_set self.old n Free }
+        ensures free { free_count self.new ≡ free_count self.old + 1 }
+        ensures held { (c : ℕ) → held_count c self.new ≡ held_count c self.old }
     {
         let at = n.get() as usize;
         self.states[at] = BlockState::Free;

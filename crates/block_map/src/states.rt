@@ -1,4 +1,4 @@
-ghost use Rattle.std.specs.Prelude.{◌≡◌, ◌+◌, ◌-◌, ◌<◌, ◌≤◌, ◌≢◌, ℕ, length, vec_len};
+ghost use Rattle.std.specs.Prelude.{◌≡◌, ◌+◌, ◌-◌, ◌<◌, ◌≤◌, ◌≢◌, ℕ, length, true, vec_len};
 ghost use Rattle.block_map.specs.States.{is_free, is_held, free_count, held_count, held_below, free_below, state_at, TakesLeast, Replaces};
 
 use afs_base::ClientNo;
@@ -54,6 +54,20 @@ pub fn take_least(states: &mut Vec<BlockState>, from: usize, client: ClientNo, n
         at += 1;
     }
     at
+}
+
+/// The least block that the client holds, or the number of blocks where it holds none.
+pub fn first_held(states: &[BlockState], client: ClientNo) -> usize
+    ensures none_below { held_below client states.now result ≡ 0 }
+    ensures held { result < length states.now → is_held client (state_at states.now result) ≡ true }
+    ensures most { result ≤ length states.now }
+{
+    'search: for (at, state) in states.iter().enumerate() {
+        if is_held(client, *state) {
+            return at;
+        }
+    }
+    states.len()
 }
 
 /// Puts another state in the place of each block that the client holds, and answers how many these were.

@@ -14,13 +14,15 @@ fn holds_keeps_and_gives_back(rt: HostRuntime) -> Result<(), Fail> {
     map.hold(client, 3)?;
     assert_eq!(rt; map.free(), 0);
     map.give_back(client);
+    assert_eq!(rt; map.free(), 3);
     map.hold(client, 1)?;
     assert_eq!(rt; map.held(client, 0).get(), 3);
     Ok(())
 }
 
 #[test]
-fn marks_and_frees(rt: HostRuntime) -> Result<(), Fail> {
+fn frees_again_and_runs_out(rt: HostRuntime) -> Result<(), Fail> {
+    let client = ClientNo::of(16)?;
     let block = BlockNo::of(2)?;
     let mut map = BlockMap::make(rt.alloc(), 4)?;
     map.mark_kept(block);
@@ -28,6 +30,19 @@ fn marks_and_frees(rt: HostRuntime) -> Result<(), Fail> {
     assert_eq!(rt; map.free(), 2);
     map.free_kept(block);
     assert_eq!(rt; map.state(block), BlockState::Free);
-    assert_eq!(rt; map.free(), 3);
+    map.hold(client, 3)?;
+    assert_eq!(rt; map.held(client, 1), block);
+    map.keep(client);
+    assert_eq!(rt; map.hold(client, 1), Err(NoSpace { needed: 1, free: 0 }));
+    Ok(())
+}
+
+#[test]
+fn has_the_greatest_size(rt: HostRuntime) -> Result<(), Fail> {
+    let client = ClientNo::of(2)?;
+    let mut map = BlockMap::make(rt.alloc(), 65_536)?;
+    map.hold(client, 65_535)?;
+    assert_eq!(rt; map.held(client, 65_534).get(), 65_535);
+    assert_eq!(rt; map.free(), 0);
     Ok(())
 }

@@ -1,2 +1,3 @@
 pub mod Capability
 pub mod Grant
+pub mod Tables

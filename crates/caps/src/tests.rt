@@ -1,46 +1,151 @@
-use crate::{BadHex, Capability, DeniedWhy, Seal, granted, restricted};
+use crate::{BadHex, Capability, DeniedWhy, grant, mint, restrict};
+use page_codec::{Table, decode_root};
+use std::alloc::Global;
 use std::test::Fail;
 
-// The secret of object 1 of generation 1 in a store with key 7, and its capabilities, as another SHA-256 gives them.
-const SECRET: [u8; 8] = [0xFF, 0xDA, 0x0D, 0x45, 0xB7, 0x60, 0xBE, 0xD5];
+// Each check was computed by another SHA-256, from the key 7, the object, the generation 1 and the rights.
 
 const ALL_RIGHTS: &[u8] = b"616d6f65626100000107f435295ecc52";
 
-const READING: [u8; 32] = *b"616d6f6562610000010115d8e398af1b";
+const READING: &[u8] = b"616d6f6562610000010115d8e398af1b";
+
+// Block 0 of a new store of two files and 64 blocks, up to where it is zero: the head, the key, and of each file the first
+// block, the generation and the secret.
+const NEW_STORE: [u8; 48] = [
+    0xA5, 0x54, 1, 0, 0, 0, 0, 64, 0, 0, 0, 0, 0, 0, 0, 7, 0, 0, 0, 1, 0, 0, 0, 1, 0xFF, 0xDA,
+    0x0D, 0x45, 0xB7, 0x60, 0xBE, 0xD5, 0, 0, 0, 2, 0, 0, 0, 1, 0x32, 0x41, 0x3D, 0x93, 0xA2, 0x10,
+    0xB9, 0xD9,
+];
+
+// The head of block 0 of a store of 65,536 blocks with a table of several blocks.
+const LARGE_STORE: [u8; 8] = [0xA5, 0x54, 2, 0, 0, 1, 0, 0];
+
+fn table_of(alloc: Global, head: &[u8]) -> Result<Table, Fail> {
+    let mut block = [0; 1024];
+    for (place, byte) in block.iter_mut().zip(head) {
+        *place = *byte;
+    }
+    let root = decode_root(&block)?;
+    let table = Table::of_root(alloc, &root)?;
+    Ok(table)
+}
+
+/// The large table, whose last object has the entry of the first file of the other table.
+fn large_table(alloc: Global) -> Result<Table, Fail> {
+    let mut table = table_of(alloc, &LARGE_STORE)?;
+    let small = table_of(alloc, &NEW_STORE)?;
+    if small.entries().len() > 0 && table.entries().len() == 4032 && table.format() == 2 {
+        table.set_entry(4032, small.entries()[0]);
+    }
+    Ok(table)
+}
 
 #[test]
 fn grants_in_order(rt: HostRuntime) -> Result<(), Fail> {
-    let seal = Some(Seal::of(SECRET, 1));
-    let full = Capability::of_hex(ALL_RIGHTS)?;
-    assert_eq!(rt; full.object(), 1);
-    assert_eq!(rt; granted(&seal, &full, 7), Ok(1));
-    let reading = restricted(&seal, &full, 9).ok().ok_or("refused")?;
-    let mut text = [0; 32];
-    reading.to_hex(&mut text);
-    assert_eq!(rt; text, READING);
-    assert_eq!(rt; granted(&seal, &reading, 1), Ok(1));
-    assert_eq!(rt; granted(&seal, &reading, 2), Err(DeniedWhy::Rights));
-    let raised = Capability::of_hex(b"616d6f6562610000010315d8e398af1b")?;
-    assert_eq!(rt; granted(&seal, &raised, 8), Err(DeniedWhy::Check));
-    let foreign = Capability::of_hex(b"616d6f6562620000010315d8e398af1b")?;
-    assert_eq!(rt; granted(&seal, &foreign, 8), Err(DeniedWhy::NoObject));
-    assert_eq!(rt; granted(&None, &full, 1), Err(DeniedWhy::NoObject));
+    let table = table_of(rt.alloc(), &NEW_STORE)?;
+    let cases: [(&[u8], u8, Result<u32, DeniedWhy>); 13] = [
+        (ALL_RIGHTS, 7, Ok(1)),
+        (b"616d6f65626100000207885931e277e0", 7, Ok(2)),
+        (READING, 1, Ok(1)),
+        (READING, 0, Ok(1)),
+        (READING, 2, Err(DeniedWhy::Rights)),
+        (READING, 3, Err(DeniedWhy::Rights)),
+        // another last digit; a right more, with the check of fewer; an object's check on another
+        (
+            b"616d6f6562610000010115d8e398af1c",
+            2,
+            Err(DeniedWhy::Check),
+        ),
+        (
+            b"616d6f6562610000010315d8e398af1b",
+            8,
+            Err(DeniedWhy::Check),
+        ),
+        (
+            b"616d6f6562610000020115d8e398af1b",
+            1,
+            Err(DeniedWhy::Check),
+        ),
+        // another port; no object 0; object 3 is not live; a number past the table, with a check that fits no object
+        (
+            b"616d6f6562620000010115d8e398af1c",
+            2,
+            Err(DeniedWhy::NoObject),
+        ),
+        (
+            b"616d6f6562610000000115d8e398af1c",
+            2,
+            Err(DeniedWhy::NoObject),
+        ),
+        (
+            b"616d6f6562610000030115d8e398af1c",
+            2,
+            Err(DeniedWhy::NoObject),
+        ),
+        (
+            b"616d6f65626100003d07cb8f3b223a81",
+            1,
+            Err(DeniedWhy::NoObject),
+        ),
+    ];
+    for (text, need, answer) in cases {
+        let cap = Capability::of_hex(text)?;
+        assert_eq!(rt;
+            grant(&table, &cap, need).map_err(|denied| denied.why),
+            answer
+        );
+    }
     Ok(())
 }
 
 #[test]
-fn reads_hexadecimal_text(rt: HostRuntime) -> Result<(), Fail> {
-    let lower = Capability::of_hex(ALL_RIGHTS)?;
-    let upper = Capability::of_hex(b"616D6F65626100000107F435295ECC52")?;
-    assert_eq!(rt; lower, upper);
-    assert_eq!(rt; Capability::of_bytes(&lower.to_bytes()), lower);
+fn mints_and_restricts(rt: HostRuntime) -> Result<(), Fail> {
+    let table = table_of(rt.alloc(), &NEW_STORE)?;
+    let full = Capability::of_hex(ALL_RIGHTS)?;
+    let reading = Capability::of_hex(READING)?;
+    assert_eq!(rt; mint(&table, 1, 7), Some(full));
+    assert_eq!(rt; mint(&table, 1, 1), Some(reading));
+    assert_eq!(rt; mint(&table, 0, 7), None);
+    assert_eq!(rt; mint(&table, 3, 7), None);
+    assert_eq!(rt; mint(&table, 61, 7), None);
     assert_eq!(rt;
-        Capability::of_hex(&ALL_RIGHTS[1..]).err(),
-        Some(BadHex { at: 31 })
+        restrict(&table, &full, 9).map_err(|denied| denied.why),
+        Ok(reading)
     );
+    let forged = Capability::of_hex(b"616d6f6562610000010115d8e398af1c")?;
     assert_eq!(rt;
-        Capability::of_hex(b"616d6f65626100000107f435295ecg5g").err(),
-        Some(BadHex { at: 29 })
+        restrict(&table, &forged, 0).map_err(|denied| denied.why),
+        Err(DeniedWhy::Check)
     );
+    let gone = Capability::of_hex(b"616d6f6562610000030115d8e398af1c")?;
+    assert_eq!(rt;
+        restrict(&table, &gone, 0).map_err(|denied| denied.why),
+        Err(DeniedWhy::NoObject)
+    );
+    let last = Capability::of_hex(b"616d6f656261000fc0ffecec231d7010")?;
+    assert_eq!(rt; mint(&large_table(rt.alloc())?, 4032, 255), Some(last));
+    Ok(())
+}
+
+#[test]
+fn reads_and_writes_text(rt: HostRuntime) -> Result<(), Fail> {
+    let cap = Capability::of_hex(b"616D6F6562610000010115D8e398af1b")?;
+    let mut text = [0; 32];
+    cap.to_hex(&mut text);
+    assert_eq!(rt; text.as_slice(), READING);
+    assert_eq!(rt; Capability::of_bytes(&cap.to_bytes()), cap);
+    assert_eq!(rt; cap.port(), *b"amoeba");
+    assert_eq!(rt; (cap.object(), cap.rights()), (1, 1));
+    assert_eq!(rt; cap.check(), [0x15, 0xD8, 0xE3, 0x98, 0xAF, 0x1B]);
+    let cases: [(&[u8], usize); 5] = [
+        (b"", 0),
+        (b"616d6f6562610000010115d8e398af1", 31),
+        (b"616d6f6562610000010115d8e398af1b0", 33),
+        (b"616d6f65626100000107f435295ecg5g", 29),
+        (b"x16d6f6562610000010115d8e398af1b", 0),
+    ];
+    for (text, at) in cases {
+        assert_eq!(rt; Capability::of_hex(text).err(), Some(BadHex { at }));
+    }
     Ok(())
 }

@@ -1,3 +1,5 @@
+ghost use Rattle.std.specs.Prelude.{◌≡◌};
+
 use crate::files::Files17;
 use caps::Capability;
 use tree_model::Step;
@@ -12,7 +14,12 @@ pub enum FileName {
 }
 
 impl Default for FileName {
-    fn default() -> FileName {
+    ghost use Rattle.script_text.specs.declared.command.FileName.TheVariants.{Number};
+
+    /// The first object, with which bounded lists of files fill the places that they do not use yet.
+    fn default() -> FileName
+        ensures { result ≡ Number 1 }
+    {
         FileName::Number(1)
     }
 }

@@ -1,4 +1,4 @@
-ghost use Rattle.std.specs.Prelude.{◌≡◌, ◌<◌, length, slice_get, Some};
+ghost use Rattle.std.specs.Prelude.{◌≡◌, ◌<◌, ◌≤◌, ℕ, length, slice_get, Some};
 
 use crate::command::Command;
 use std::marker::Model;
@@ -20,7 +20,9 @@ pub struct Line {
     pub command: Command,
 }
 
-/// A script that was read: its mode and its lines. Contracts see both.
+/// A script that was read: its mode and its lines, at most 1,000, whose numbers ascend. Contracts see both. Each line's
+/// numbers are in their ranges: a `Super` has 2 to 17 files, each file is named in the mode's way, and a `Restrict` comes in
+/// mode `Caps` alone.
 #[derive(Debug, Drop)]
 pub struct Script {
     mode: Mode,
@@ -28,16 +30,21 @@ pub struct Script {
 }
 
 impl Model for Script {
-    ghost use Rattle.script_text.specs.ScriptValue.{ScriptValue};
+    ghost use Rattle.script_text.specs.ScriptValue.{ScriptValue, IsScript};
 
     ghost Value = { ScriptValue };
 
     ghost view = { λ s. record { mode = s.mode; lines = s.lines.items } };
+
+    ghost invariant = { λ s. IsScript s.mode s.lines.items };
 }
 
 impl Script {
+    ghost use Rattle.script_text.specs.ScriptValue.{IsScript, IsLine};
+
     /// A script of these lines.
     pub(crate) fn of(mode: Mode, lines: Vec<Line>) -> Script
+        requires { IsScript mode lines.items }
         ensures { result ≡ record { mode = mode; lines = lines.items } }
     {
         Script { mode, lines }
@@ -50,9 +57,10 @@ impl Script {
         self.mode
     }
 
-    /// How many lines have an answer.
+    /// How many lines have an answer, at most 1,000.
     pub fn len(&self) -> usize
-        ensures { result ≡ length self.now.lines }
+        ensures value { result ≡ length self.now.lines }
+        ensures most { result ≤ 1000 }
     {
         self.lines.len()
     }
@@ -60,7 +68,10 @@ impl Script {
     /// The line at place `i`, from 0.
     pub fn line(&self, i: usize) -> &Line
         requires { i < length self.now.lines }
-        ensures { slice_get self.now.lines i ≡ Some result.now }
+        ensures value { slice_get self.now.lines i ≡ Some result.now }
+        ensures sound { IsLine self.now.mode result.now }
+        ensures ascends { (j : ℕ) (before : Line) → j < i → slice_get self.now.lines j ≡ Some before
+            → before.number < result.now.number }
     {
         &self.lines[i]
     }

@@ -11,8 +11,10 @@ use afs_base::Failed;
 pub struct SureSink;
 
 impl SureSink {
-    /// A new sink. It takes no memory.
-    pub fn make() -> SureSink {
+    /// The sink, of which there is but one. It takes no memory.
+    pub fn make() -> SureSink
+        ensures { (sink : SureSink) → result ≡ sink }
+    {
         SureSink
     }
 }
