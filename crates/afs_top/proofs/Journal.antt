@@ -312,7 +312,8 @@ committable steps root written = record {
     one zero d short = lit≤ tt
     one (suc k) d short = absurd (omega arith)
 
-written_lawful : (steps : List Step) (at : ℕ) → All IsRootStep steps → is_written_by steps ≡ true
+-- and its commit may come next
+pub written_lawful : (steps : List Step) (at : ℕ) → All IsRootStep steps → is_written_by steps ≡ true
     → IsLawfulWhat (held_standing steps) (client_of (held_standing steps) 1) Commit (Committed (named 2 ∷ []) at)
 written_lawful steps at root written =
     let F : Bool → Type 0 = λ b. MatchBool b (IsCommittable (held_standing steps) (client_of (held_standing steps) 1) (update_with steps) (named 2 ∷ []))

@@ -7,6 +7,7 @@ pub mod NewStore
 pub mod Found
 pub mod Versions
 pub mod Course
+pub mod Cut
 pub mod Faults
 pub mod Output
 pub mod Words

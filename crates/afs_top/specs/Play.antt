@@ -1,13 +1,15 @@
-use Rattle.std.specs.Prelude.{◌≡◌, ◌⊎◌, ℕ, List, [], ◌++◌, Option, None, IfSome, IsSomeAnd}
+use Rattle.std.specs.Prelude.{◌≡◌, ◌⊎◌, ℕ, List, [], ◌++◌, Option, None, IfSome, IsSome, IsSomeAnd}
 use Rattle.std.specs.Io.KnownBytes.{Appends}
 use Rattle.drives.specs.declared.device.Half.{Half}
 use Rattle.script_text.specs.Front.{AppendsFront}
+use Rattle.service_model.specs.declared.journal.Entry.{Entry}
 use Rattle.service_model.specs.declared.journal.Journal.{Journal}
-use Rattle.service_model.specs.Legal.{Reaches, IsComplete}
+use Rattle.service_model.specs.Legal.{Reaches, IsComplete, IsLawful, moment_of}
 use Rattle.service_model.specs.Order.{IsInOrder}
 use Rattle.service_model.specs.Print.{printed, answers_printed}
 use Rattle.service_model.specs.Standing.{Standing}
 use Rattle.tree_model.specs.declared.step.Step.{Step}
+use Rattle.tree_model.specs.States.{State}
 use Rattle.afs_top.specs.declared.status.Status.{Status}
 use Rattle.afs_top.specs.declared.status.Status.TheVariants.{Success, Usage, BadScript, DriveFault, BadStore, SinkFault, SourceFault, Memory}
 use Rattle.afs_top.specs.declared.stop.Stop.TheVariants.{Source, Script, Store}
@@ -53,6 +55,14 @@ pub record IsStored (blocks : ℕ) (before after : Half → List ℕ) (s : Stand
   pub opening : IsFound blocks (content before) new_state
   pub closing : IsFound blocks (content after) s.state
 
+-- what is in doubt, if anything is, is the entry that would have come next, and one that changes the state
+abbrev pub IsDoubt : List Step → Standing → Option Entry → Type 0
+IsDoubt steps s doubt = IfSome doubt (λ e. IsLawful (scripts_of steps) s e × IsSome (moment_of e.what))
+
+-- where nothing is in doubt, halves that held the new store hold this state
+abbrev pub HoldsUndoubted : ℕ → (Half → List ℕ) → (Half → List ℕ) → Option Entry → State → Type 0
+HoldsUndoubted blocks before after doubt state = doubt ≡ None → IsNew blocks before → IsFound blocks (content after) state
+
 -- How a call ends, by its status: over halves that held `before` and hold `after` where they tell it, of which some have
 -- `failed`, a source that had `left` and a sink that had `old` and has `new` written.
 abbrev pub EndsAs : Type 0 → ℕ → (Half → List ℕ) → (Half → List ℕ) → (Half → Type 0) → Option (List ℕ) → Type 0 → Option (List ℕ) → Option (List ℕ) → Type 0 → Journal → Status → Type 0
@@ -65,9 +75,11 @@ EndsAs tells blocks before after failed left source_rose old new sink_rose journ
     × Prints old new sink_rose (stop_text [] Script)
 EndsAs tells blocks before after failed left source_rose old new sink_rose journal DriveFault =
     (half : Half) × (steps : List Step) × (s : Standing) × failed half × HasScript left steps
-    × Reaches new_state (scripts_of steps) journal.entries.items s × Prints old new sink_rose (answers_printed (scripts_of steps) s ++ drive_text half)
+    × Reaches new_state (scripts_of steps) journal.entries.items s × IsDoubt steps s journal.doubt
+    × (tells → HoldsUndoubted blocks before after journal.doubt s.state) × Prints old new sink_rose (answers_printed (scripts_of steps) s ++ drive_text half)
 EndsAs tells blocks before after failed left source_rose old new sink_rose journal BadStore =
-    (steps : List Step) × HasScript left steps × (tells → IsNew blocks before → ⊥) × (journal.entries.items ≡ []) × (journal.doubt ≡ None)
+    (steps : List Step) × HasScript left steps × (tells → IsNew blocks before → ⊥) × (tells → (h : Half) → after h ≡ before h)
+    × (journal.entries.items ≡ []) × (journal.doubt ≡ None)
     × Prints old new sink_rose (stop_text [] Store)
 EndsAs tells blocks before after failed left source_rose old new sink_rose journal SinkFault =
     (steps : List Step) × (s : Standing) × HasScript left steps × IsRun journal steps s × (tells → IsStored blocks before after s)
@@ -76,7 +88,7 @@ EndsAs tells blocks before after failed left source_rose old new sink_rose journ
     source_rose × (journal.entries.items ≡ []) × (journal.doubt ≡ None) × Prints old new sink_rose (stop_text [] Source)
 EndsAs tells blocks before after failed left source_rose old new sink_rose journal Memory =
     (steps : List Step) × (s : Standing) × ((journal.entries.items ≡ []) ⊎ HasScript left steps)
-    × Reaches new_state (scripts_of steps) journal.entries.items s × Prints old new sink_rose memory_text
+    × Reaches new_state (scripts_of steps) journal.entries.items s × IsDoubt steps s journal.doubt × Prints old new sink_rose memory_text
 
 -- the source held a script in shape
 abbrev pub HoldsScript : Option (List ℕ) → Type 0

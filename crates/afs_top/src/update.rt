@@ -1,6 +1,7 @@
 ghost use Rattle.std.specs.Prelude.{◌≡◌, ◌⊎◌, ◌+◌, ◌*◌, ◌<◌, ◌≤◌, ◌++◌, [], ◌∷◌, All, ℕ, Bool, Some, None, length, true, false, OnOk, OnErr, IfOk, IfErr, IsErrOf};
 ghost use Rattle.drives.specs.declared.device.Half.{Half};
 ghost use Rattle.afs_top.specs.Course.{begun_entries, stepped_entries, held_entries, whole_entries, whole_answers, step_answers, is_written_by, entry, named, last_entries, last_serial, nothing_entries, commit_entries, IsCut, IsFront, IsPart};
+ghost use Rattle.afs_top.specs.Cut.{IsCutOff};
 ghost use Rattle.afs_top.specs.Faults.{HalfFailed, Later};
 ghost use Rattle.afs_top.specs.Script.{IsRootStep};
 ghost use Rattle.afs_top.specs.Stop.{IsDriveStop, IsHalt};
@@ -125,6 +126,7 @@ fn link<V: Drives>(
     ensures entries { account.new.journal.entries.items ≡ account.old.journal.entries.items }
     ensures replies { account.new.replies ≡ account.old.replies }
     ensures sure { OnOk result (account.new.journal.doubt ≡ account.old.journal.doubt) }
+    ensures doubt { OnErr result (IsCutOff V.tells (V.seen drives.old) (V.seen drives.new) line (V.moment drives.new) account.old.journal.doubt account.new.journal.doubt) }
 {
     write_block(drives, SECOND, &second_block(draft))?;
     match write_block(drives, FIRST, &linked_block()) {
@@ -161,6 +163,7 @@ fn commit_page<V: Drives>(
     ensures sure { OnOk result (account.new.journal.doubt ≡ account.old.journal.doubt) }
     ensures cut { (h : Half) → IsErrOf result (Stop.Drive h) → account.new.journal.entries.items ≡ account.old.journal.entries.items ++ entry line (Held 1) ∷ [] }
     ensures told { (h : Half) → IsErrOf result (Stop.Drive h) → account.new.replies ≡ account.old.replies }
+    ensures doubt { (h : Half) → IsErrOf result (Stop.Drive h) → IsCutOff V.tells (V.seen drives.old) (V.seen drives.new) line (V.moment drives.new) account.old.journal.doubt account.new.journal.doubt }
     ensures memory { IsErrOf result Stop.Memory → (at : ℕ) × IsPart account.old.journal.entries.items (entry line (Held 1) ∷ commit_entries line at) account.new.journal.entries.items }
     ensures memory_sure { IsErrOf result Stop.Memory → account.new.journal.doubt ≡ account.old.journal.doubt }
 {
@@ -189,6 +192,7 @@ fn commit<V: Drives>(
     ensures sure { OnOk result (account.new.journal.doubt ≡ account.old.journal.doubt) }
     ensures cut { (h : Half) → IsErrOf result (Stop.Drive h) → IsCut draft.now.flags.written line account.old.journal.entries.items account.new.journal.entries.items }
     ensures told { (h : Half) → IsErrOf result (Stop.Drive h) → account.new.replies ≡ account.old.replies }
+    ensures doubt { (h : Half) → IsErrOf result (Stop.Drive h) → IsCutOff V.tells (V.seen drives.old) (V.seen drives.new) line (V.moment drives.new) account.old.journal.doubt account.new.journal.doubt }
     ensures memory { IsErrOf result Stop.Memory → (at : ℕ) × IsPart account.old.journal.entries.items (last_entries draft.now.flags.written line at) account.new.journal.entries.items }
     ensures memory_sure { IsErrOf result Stop.Memory → account.new.journal.doubt ≡ account.old.journal.doubt }
 {
@@ -230,6 +234,7 @@ pub(crate) fn run<V: Drives>(
     ensures sure { OnOk result (account.new.journal.doubt ≡ None) }
     ensures cut { (h : Half) → IsErrOf result (Stop.Drive h) → (is_written_by steps.now ≡ true) × (account.new.journal.entries.items ≡ held_entries (length steps.now)) }
     ensures told { (h : Half) → IsErrOf result (Stop.Drive h) → account.new.replies.items ≡ step_answers steps.now }
+    ensures doubt { (h : Half) → IsErrOf result (Stop.Drive h) → IsCutOff V.tells (V.seen drives.old) (V.seen drives.new) (length steps.now + 2) (V.moment drives.new) None account.new.journal.doubt }
     ensures memory { IsErrOf result Stop.Memory → (at : ℕ) × IsFront account.new.journal.entries.items (whole_entries (is_written_by steps.now) (length steps.now) at) }
     ensures memory_sure { IsErrOf result Stop.Memory → account.new.journal.doubt ≡ None }
 {

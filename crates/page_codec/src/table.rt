@@ -111,6 +111,27 @@ impl Table {
         self.parts[j] = Some(part);
     }
 
+    /// The entries of part j in format 2.
+    fn entries_of(&self, j: u8) -> &[TableEntry]
+        requires below { j < 64 }
+        requires two { self.now.format ≡ 2 }
+        ensures entries { result.now ≡ part_entries j self.now.entries }
+        ensures count { length result.now ≡ 63 }
+    {
+        let (_, rest) = self.entries.as_slice().split_at(PART_ENTRIES * j as usize);
+        let (entries, _) = rest.split_at(PART_ENTRIES);
+        entries
+    }
+
+    /// Whether one of the files of part j is there, or was: then the table has that part.
+    pub fn is_used_part(&self, j: u8) -> bool
+        requires below { j < 64 }
+        requires two { self.now.format ≡ 2 }
+        ensures { result ≡ list_any has_generation (part_entries j self.now.entries) }
+    {
+        self.entries_of(j).iter().any(|entry| entry.generation != 0)
+    }
+
     /// The blocks of the parts.
     pub fn parts(&self) -> &[Option<BlockNo>]
         ensures { result.now ≡ self.now.parts }
@@ -162,7 +183,5 @@ pub fn encode_part(table: &Table, j: u8, into: &mut Block)
     ensures bytes { into.new ≡ part_bytes j (part_entries j table.now.entries) }
     ensures spelled { IsPart (part_entries j table.now.entries) }
 {
-    let (_, rest) = table.entries.as_slice().split_at(PART_ENTRIES * j as usize);
-    let (entries, _) = rest.split_at(PART_ENTRIES);
-    put_part(into, j, entries);
+    put_part(into, j, table.entries_of(j));
 }

@@ -39,17 +39,23 @@ fn thirteen_codes_and_no_more(rt: HostRuntime) -> Result<(), Fail> {
     Ok(())
 }
 
+/// The code of each mark alone.
+const MARKS: [(Mark, u8); 5] = [
+    (Mark::Copy, 1),
+    (Mark::Read, 4),
+    (Mark::Write, 7),
+    (Mark::Search, 2),
+    (Mark::Modify, 3),
+];
+
 #[test]
 fn marks_add_up(rt: HostRuntime) {
-    let read = Flags::none().see(Mark::Read);
-    assert_eq!(rt; read.code(), 4);
-    assert_eq!(rt; read.see(Mark::Copy), read);
-    assert_eq!(rt; Flags::none().see(Mark::Modify).code(), 3);
-    assert_eq!(rt;
-        read.see(Mark::Write)
-            .see(Mark::Search)
-            .see(Mark::Modify)
-            .code(),
-        12
-    );
+    let mut all = Flags::none();
+    for (mark, code) in MARKS {
+        let flags = Flags::none().see(mark);
+        assert_eq!(rt; flags.code(), code, "{mark:?}");
+        assert_eq!(rt; flags.see(Mark::Copy), flags, "{mark:?}");
+        all = all.see(mark);
+    }
+    assert_eq!(rt; all.code(), 12);
 }

@@ -58,11 +58,11 @@ returns-in-Err-clause-ends g c = λ left script.
           let cut = c.run.ensures.cut h out in
           let Told : List LineReply → Type 0 = λ rs. H rs (Drive h) in
           ends_drive g.V.Drives.tells (g.V.Drives.size c.args.drives.now) (g.V.Drives.seen c.args.drives.now) (g.V.Drives.seen c.run.new.drives) failed left ⊥ old new rose journal
-          steps h status script c.requires.root c.requires.few (c.run.ensures.drive h out) cut.0 cut.1
+          steps h (g.V.Drives.moment c.run.new.drives) status script c.requires.root c.requires.few (c.run.ensures.drive h out) cut.0 cut.1 (c.run.ensures.doubt h out)
           (subst Told (c.deref-in-Err.ensures.value ∙ c.run.ensures.told h out) (subst At is c.halt.ensures.ends))
       | Memory ↦ λ is only.
           let out : IsErrOf c.run.result Memory = c.in-Err.is ∙ ap (λ (s : Stop). Err s) is in
           let noted = c.run.ensures.memory out in
           ends_memory g.V.Drives.tells (g.V.Drives.size c.args.drives.now) (g.V.Drives.seen c.args.drives.now) (g.V.Drives.seen c.run.new.drives) failed left ⊥ old new rose journal
-          steps noted.0 status script c.requires.root c.requires.few noted.1 (subst At is c.halt.ensures.ends)
+          steps noted.0 status script c.requires.root c.requires.few noted.1 (c.run.ensures.memory_sure out) (subst At is c.halt.ensures.ends)
     ]) refl c.in-Err.ensures.only

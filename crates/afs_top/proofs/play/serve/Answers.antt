@@ -37,8 +37,8 @@ returns-in-Err-clause-ends g c =
             let out : IsErrOf c.read_steps.result Script = c.in-Err.is ∙ ap (λ (s : Stop). Err s) is in
             ends_script tells blocks before before failed left source_rose old new rose journal status (c.read_steps.ensures.shape out) c.requires.entries c.requires.doubt (subst At is ends)
         | inr is ↦ elim (subst At is ends) [
-          | inl end ↦ ends_empty tells blocks before before failed left source_rose old new rose journal [] status c.requires.entries end.0 end.1
-          | inr end ↦ ends_empty tells blocks before before failed left source_rose old new rose journal [] status c.requires.entries end.0 end.1
+          | inl end ↦ ends_empty tells blocks before before failed left source_rose old new rose journal [] status c.requires.entries c.requires.doubt end.0 end.1
+          | inr end ↦ ends_empty tells blocks before before failed left source_rose old new rose journal [] status c.requires.entries c.requires.doubt end.0 end.1
         ]
       ]
     ]
