@@ -226,6 +226,7 @@ feeds d q page small store root a steps end b was W holds =
     let none : d q ≡ None = wanted_none store root a (tree_after a steps) (all_writes a steps) d end q b S.shape W in
     record {
       base = was.base;
+      kept = was.kept;
       stands = record {
         shape = same_shape store root a (tree_after a steps) (all_writes a steps) (fed_copies (copies d) q page) (copies (fed d q page)) (fed_is d q page)
             (shape_fed store root a (tree_after a steps) (all_writes a steps) (copies d) end q b page was.base W holds small S.shape);
@@ -309,6 +310,7 @@ shape_begun store root a page base holds = record {
 pub begins : (root : ℕ) (page : PageValue) → Begins (begun page) root page
 begins root page store a base holds = record {
   base = base;
+  kept = refl;
   stands = record {
     shape = same_shape store root a a [] (fed_copies (λ _. None) [] page) (copies (begun page)) (fed_is (λ _. None) [] page) (shape_begun store root a page base holds);
     read = λ p k kind. fed_read (λ _. None) [] page refl p k;

@@ -5,3 +5,4 @@ pub mod Moves
 pub mod Shapes
 pub mod Runs
 pub mod Feeding
+pub mod Telling

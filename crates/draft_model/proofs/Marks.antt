@@ -23,11 +23,11 @@ use Rattle.draft_model.proofs.Ways.{way_told, child_told, makes_told}
 
 -- ---- single places
 
-abbrev is_data : Kind → Bool
+abbrev pub is_data : Kind → Bool
 is_data Data = true
 is_data (Slot k) = false
 
-abbrev number : Kind → ℕ
+abbrev pub number : Kind → ℕ
 number Data = 0
 number (Slot k) = k
 
@@ -223,15 +223,15 @@ shifted t h p q is = elim (path_told p q) [
   | inr e ↦ ap (λ b. has t q && b) e ∙ and_false (has t q) ∙ sym (ap (λ b. live h p && b) e ∙ and_false (live h p))
 ]
 
-cond_data : (b : Bool) (q p : List ℕ) → is_among (cond b ((q, Data) ∷ []) []) (p, Data) ≡ (b && same p q)
+pub cond_data : (b : Bool) (q p : List ℕ) → is_among (cond b ((q, Data) ∷ []) []) (p, Data) ≡ (b && same p q)
 cond_data true q p = one_data q p
 cond_data false q p = refl
 
-cond_no_slot : (b : Bool) (q p : List ℕ) (k : ℕ) → is_among (cond b ((q, Data) ∷ []) []) (p, Slot k) ≡ false
+pub cond_no_slot : (b : Bool) (q p : List ℕ) (k : ℕ) → is_among (cond b ((q, Data) ∷ []) []) (p, Slot k) ≡ false
 cond_no_slot true q p k = data_no_slot q p k []
 cond_no_slot false q p k = refl
 
-cond_slots : (b : Bool) (q p : List ℕ) (k : ℕ) → k < 16 → is_among (cond b (slots_at q) []) (p, Slot k) ≡ (b && same p q)
+pub cond_slots : (b : Bool) (q p : List ℕ) (k : ℕ) → k < 16 → is_among (cond b (slots_at q) []) (p, Slot k) ≡ (b && same p q)
 cond_slots true q p k small = slot_at q p k ∙ ap (λ b. same p q && b) (lt-ltb k 16 small) ∙ and_true (same p q)
 cond_slots false q p k small = refl
 

@@ -1,6 +1,7 @@
 -- A step for which no page is wanted: the draft stands for one step more.
 use Rattle.std.proofs.Common.{◌≡◌, ℕ, Bool, true, false, not, ◌&&◌, ◌||◌, cond, List, [], ◌∷◌, ◌++◌, length, ◌⊎◌, inl, inr, refl, sym, ap, subst, ◌∙◌, Option, Some, None, option_map, is_some, append_assoc, append-nil}
 use Rattle.std.specs.Option.{option_map_or}
+use Rattle.std.specs.List.{list_all}
 use Rattle.std.specs.FinMap as map
 use Rattle.std.specs.Cmp.{first_so, second_so}
 use Rattle.afs_base.specs.Path.{is_prefix, are_slots}
@@ -10,7 +11,7 @@ use Rattle.tree_model.specs.declared.step.Step.TheVariants.{ReadAt, ListAt, Writ
 use Rattle.tree_model.specs.Children.{path_of}
 use Rattle.tree_model.specs.Trees.{Tree, has, IsTree, can_make, without, after, tree_after}
 use Rattle.tree_model.specs.Accesses.{Place, is_among, slot_of, slots_at, target, step_reads, step_writes, all_reads, all_writes}
-use Rattle.tree_model.proofs.Paths.{told, never, prefix_self, child_not_root, or_left, or_right, not_true}
+use Rattle.tree_model.proofs.Paths.{told, never, both_true, prefix_self, child_not_root, or_left, or_right, not_true}
 use Rattle.tree_model.proofs.TreeFacts.{tree_step, tree_insert, tree_without, above_child}
 use Rattle.tree_model.proofs.PlaceFacts.{among_left, among_right, among_later, among_first}
 use Rattle.draft_model.specs.Places.{Store, Holds, same, slot_block}
@@ -143,6 +144,13 @@ reads_last a done (s ∷ steps) step =
     (append_assoc done (step_writes a s) (all_writes (after a s) steps)))
     ∙ sym (append_assoc (step_reads a done s) (all_reads (after a s) (done ++ step_writes a s) steps) (step_reads (tree_after (after a s) steps) (done ++ all_writes a (s ∷ steps)) step))
 
+all_last : (steps : List Step) (step : Step) → list_all (λ (s : Step). are_slots (target s)) steps ≡ true → are_slots (target step) ≡ true
+    → list_all (λ (s : Step). are_slots (target s)) (steps ++ step ∷ []) ≡ true
+all_last [] step all small = ap (λ b. b && true) small
+all_last (s ∷ steps) step all small =
+    both_true _ _ (first_so (are_slots (target s)) (list_all (λ (s : Step). are_slots (target s)) steps) all)
+    (all_last steps step (second_so (are_slots (target s)) (list_all (λ (s : Step). are_slots (target s)) steps) all) small)
+
 -- ---- the law
 
 pub runs : (d : View) (step : Step) → are_slots (target step) ≡ true → WantsNone (copies d) (end_of step) → Runs d (stepped d step) step (reply_in (copies d) step)
@@ -163,6 +171,7 @@ runs d step small none store root a steps was =
       reply_told store root a t w (copies d) was.base S.shape step none,
       record {
         base = was.base;
+        kept = all_last steps step was.kept small;
         stands = subst H (sym (writes_last a steps step)) (subst G (sym (reads_last a [] steps step)) (subst F (sym (tree_last a steps step)) next));
       },
     )

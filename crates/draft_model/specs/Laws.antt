@@ -1,12 +1,13 @@
 -- The laws by which every draft meets its promises.
-use Rattle.std.specs.Prelude.{◌≡◌, ℕ, true, List, []}
+use Rattle.std.specs.Prelude.{◌≡◌, ℕ, ◌^◌, ◌<◌, true, List, [], Option, Some, None}
 use Rattle.afs_base.specs.Path.{are_slots}
 use Rattle.tree_model.specs.Accesses.{target}
 use Rattle.tree_model.specs.declared.step.Step.{Step}
 use Rattle.page_codec.specs.Values.{PageValue}
-use Rattle.draft_model.specs.Views.{View, copies, end_of, WantsNone}
+use Rattle.draft_model.specs.Views.{Copied, View, copies, end_of, WantsNone}
 use Rattle.draft_model.specs.Steps.{stepped, reply_in, fed, begun}
 use Rattle.draft_model.specs.Stands.{Runs, Feeds, Begins}
+use Rattle.draft_model.specs.Told.{flags_of, searched_of, modified_of, AreFresh, TellsFlags, TellsMasks, TellsFresh}
 
 -- a step for which no page is wanted is a step of the update
 abbrev pub StepLaw : Type 0
@@ -19,3 +20,20 @@ FeedLaw = (d : View) (q : List ℕ) (page : PageValue) → are_slots q ≡ true 
 -- a draft begins as its base, with no step done
 abbrev pub BeginLaw : Type 0
 BeginLaw = (root : ℕ) (page : PageValue) → Begins (begun page) root page
+
+-- the masks of a copied page have sixteen bits
+abbrev pub AreMasks : Option Copied → Type 0
+AreMasks None = Unit {0}
+AreMasks (Some c) = (c.searched < 2 ^ 16) × (c.page.modified < 2 ^ 16)
+
+-- the flags of every path, those of dropped pages included, are the accesses of the update
+abbrev pub FlagLaw : Type 0
+FlagLaw = (d : View) (p : List ℕ) → AreMasks (d p) → TellsFlags d p (flags_of (d p))
+
+-- .. and so are the masks
+abbrev pub MaskLaw : Type 0
+MaskLaw = (d : View) (p : List ℕ) → TellsMasks d p (searched_of (d p)) (modified_of (d p))
+
+-- the fresh paths of the draft are those of the update
+abbrev pub FreshLaw : Type 0
+FreshLaw = (d : View) (paths : List (List ℕ)) → AreFresh d paths → TellsFresh d paths

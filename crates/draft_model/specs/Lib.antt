@@ -2,4 +2,5 @@ pub mod Places
 pub mod Views
 pub mod Steps
 pub mod Stands
+pub mod Told
 pub mod Laws

@@ -1,11 +1,12 @@
 -- What a draft stands for. It keeps neither its base nor its steps: this is a relation between what it shows, the blocks, the base and the steps.
 use Rattle.std.specs.Prelude.{◌≡◌, ℕ, ◌<◌, Bool, true, false, List, [], ◌∷◌, ◌++◌, length, Option, Some, None}
+use Rattle.std.specs.List.{list_all}
 use Rattle.std.specs.FinMap as map
 use Rattle.afs_base.specs.Path.{is_prefix, are_slots}
 use Rattle.afs_base.specs.declared.kind.Kind.{Kind}
 use Rattle.afs_base.specs.declared.kind.Kind.TheVariants.{Data, Slot}
 use Rattle.tree_model.specs.Trees.{Tree, has, IsTree, tree_after, reply_of}
-use Rattle.tree_model.specs.Accesses.{Place, is_among, all_reads, all_writes}
+use Rattle.tree_model.specs.Accesses.{Place, is_among, target, all_reads, all_writes}
 use Rattle.tree_model.specs.declared.step.Step.{Step}
 use Rattle.tree_model.specs.declared.step.Reply.{Reply}
 use Rattle.page_codec.specs.Values.{PageValue}
@@ -50,9 +51,10 @@ pub record Stands (store : Store) (root : ℕ) (a t : Tree) (reads writes : List
   pub read : (p : List ℕ) (k : Kind) → IsKind k → did_read d p k ≡ is_among reads (p, k)
   pub written : (p : List ℕ) (k : Kind) → IsKind k → did_write d p k ≡ is_among writes (p, k)
 
--- the draft stands for these steps, run on the tree that the blocks from the root down hold
+-- the draft stands for these steps, whose paths have slots below 16, run on the tree that the blocks from the root down hold
 pub record StandsFor (store : Store) (root : ℕ) (a : Tree) (steps : List Step) (d : View) : Type 0 where
   pub base : Holds store root a
+  pub kept : list_all (λ step. are_slots (target step)) steps ≡ true
   pub stands : Stands store root a (tree_after a steps) (all_reads a [] steps) (all_writes a steps) d
 
 -- whatever the draft stood for, the answer is that of the tree, and it now stands for one step more

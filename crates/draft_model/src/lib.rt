@@ -3,4 +3,4 @@
 
 mod laws;
 
-pub use laws::{begin_law, feed_law, step_law};
+pub use laws::{begin_law, feed_law, flag_law, fresh_law, mask_law, step_law};
