@@ -3,15 +3,13 @@
 
 ghost use Rattle.std.specs.Prelude.{◌≡◌, IfOk, vec_len};
 
-mod std_sink;
-
 use afs_top::{Status, afs_words};
+use drive_file::StdSink;
 use drives::SureDrives;
 use page_codec::fresh_image;
 use script_text::SureSource;
 use std::alloc::{AllocError, Global};
 use std::process::ExitCode;
-use std_sink::StdSink;
 
 /// How many blocks each half of the sample store has.
 const BLOCKS: u32 = 64;

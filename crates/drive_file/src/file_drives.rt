@@ -1,0 +1,132 @@
+// Two halves in files.
+ghost use Rattle.std.specs.Prelude.{◌≡◌, ℕ, ◌+◌, ◌-◌, ◌*◌, ◌^◌, ◌<◌, ◌≤◌, List, [], length, min, IfOk, IfErr};
+ghost use Rattle.drives.specs.declared.device.Half.{Half};
+ghost use Rattle.drives.specs.Half.{other, one_of};
+ghost use Rattle.drives.specs.Faults.{HasFault};
+ghost use Rattle.drives.specs.Crash.{Ticks};
+
+use crate::file_half::FileHalf;
+use afs_base::Failed;
+use drives::{Drives, Half};
+use std::fs::{File, Files};
+use thiserror::Error;
+
+/// How many blocks of 1024 bytes a half in a file has at the most, and is said to have: files grow as they are written.
+const BLOCKS: u32 = 65536;
+
+/// The file of this half could not be opened; half A is tried first.
+#[derive(Clone, Copy, Debug, Error)]
+#[error("the file of half {half:?} cannot be opened")]
+pub struct NoFile {
+    pub half: Half,
+}
+
+/// Two halves in files, each from its file's first byte on. They tell no bytes: what a real file holds is not claimed.
+#[derive(Drop)]
+pub struct FileDrives {
+    a: FileHalf,
+    b: FileHalf,
+    time: u64,
+    ghost clock: { time < 2 ^ 64 },
+    ghost past_a: { a.last ≤ time },
+    ghost past_b: { b.last ≤ time },
+}
+
+impl FileDrives {
+    /// Opens the files of these names. A file that is not there is made, with no bytes.
+    pub fn open<R: Files<File = File>>(rt: &R, a: &str, b: &str) -> Result<FileDrives, NoFile>
+        ensures fresh { IfOk result (λ d. (⟦<FileDrives as Drives>⟧.moment d ≡ 0) × ((h : Half) → ⟦<FileDrives as Drives>⟧.faults d h ≡ 0)) }
+    {
+        let a = FileHalf::open(rt, a).map_err(|_| NoFile { half: Half::A })?;
+        let b = FileHalf::open(rt, b).map_err(|_| NoFile { half: Half::B })?;
+        Ok(FileDrives { a, b, time: 0 })
+    }
+
+    fn file(&self, half: Half) -> &FileHalf
+        ensures { result.now ≡ one_of self.now.a self.now.b half }
+    {
+        match half {
+            Half::A => &self.a,
+            Half::B => &self.b,
+        }
+    }
+
+    // A call of a half has returned; a moment passes, but at the clock's end.
+    fn count(&mut self, half: Half, done: Result<(), Failed>)
+        ensures time { Ticks self.old.time self.new.time }
+        ensures cause { HasFault (one_of self.old.a.faults self.old.b.faults half) (one_of self.new.a.faults self.new.b.faults half)
+            (one_of self.old.a.last self.old.b.last half) (one_of self.new.a.last self.new.b.last half) self.new.time done }
+        ensures other { one_of self.new.a self.new.b (other half) ≡ one_of self.old.a self.old.b (other half) }
+    {
+        self.time = self.time.saturating_add(1);
+        match half {
+            Half::A => self.a.count(self.time, done),
+            Half::B => self.b.count(self.time, done),
+        }
+    }
+}
+
+impl Drives for FileDrives {
+    ghost tells = { ⊥ };
+
+    ghost size = { λ d. 65536 };
+
+    ghost moment = { λ d. d.time };
+
+    ghost seen = { λ d h. [] };
+
+    ghost may_leave = { λ d h t c. length c ≡ 1024 * 65536 };
+
+    ghost faults = { λ d h. one_of d.a.faults d.b.faults h };
+
+    ghost last_fault = { λ d h. one_of d.a.last d.b.last h };
+
+    fn blocks(&self) -> u32 {
+        BLOCKS
+    }
+
+    fn now(&self) -> u64 {
+        self.time
+    }
+
+    fn read(&mut self, half: Half, at: u64, buf: &mut [u8]) -> Result<(), Failed> {
+        let done = match self.time {
+            u64::MAX => Err(Failed),
+            _ => self.file(half).read(at, buf),
+        };
+        self.count(half, done);
+        done
+    }
+
+    fn write(&mut self, half: Half, at: u64, bytes: &[u8]) -> Result<(), Failed> {
+        let done = match self.time {
+            u64::MAX => Err(Failed),
+            _ => self.file(half).write(at, bytes),
+        };
+        self.count(half, done);
+        done
+    }
+
+    fn sync(&mut self, half: Half) -> Result<(), Failed> {
+        let done = match self.time {
+            u64::MAX => Err(Failed),
+            _ => self.file(half).sync(),
+        };
+        self.count(half, done);
+        done
+    }
+
+    ghost use Rattle.std.proofs.Common.{rules};
+
+    ghost some = { Prim.search rules };
+
+    ghost clock = { Prim.search rules };
+
+    ghost fault_past = { Prim.search rules };
+
+    ghost whole = { λ d h told. absurd told };
+
+    ghost left_whole = { λ d h c left. left };
+
+    ghost left_read = { λ d h told. absurd told };
+}
