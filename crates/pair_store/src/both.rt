@@ -7,11 +7,10 @@ ghost use Rattle.pair_store.specs.Content.{ContentsLeft, IsSettledAlways};
 ghost use Rattle.pair_store.specs.Stages.{HasBody, SameElsewhere};
 ghost use Rattle.pair_store.specs.Blocks.{OldOrNew};
 
-use drives::{Drives, Half};
-
 use crate::Block;
 use crate::fault::PairFault;
 use crate::half_write::write_half;
+use drives::{Drives, Half};
 
 /// Writes a block with an open gate on both halves. Its content is the old one or the new one in each image, where it
 /// was settled in every image; all other blocks are as they were, whether it was or not.

@@ -7,6 +7,7 @@ mod content_write;
 mod fault;
 mod gates;
 mod half_write;
+mod mend;
 mod on_halves;
 mod outcome;
 mod read;

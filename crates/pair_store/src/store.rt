@@ -8,12 +8,11 @@ ghost use Rattle.pair_store.specs.Blocks.{CountsOne, OldOrNew, SameContents, Sam
 ghost use Rattle.pair_store.specs.Faults.{IsStopped, IsUnread};
 ghost use Rattle.pair_store.specs.Pages.{with_commit, without_members};
 
-use afs_base::BlockNo;
-use drives::Half;
-
 use crate::Block;
 use crate::fault::PairFault;
 use crate::outcome::Tas;
+use afs_base::BlockNo;
+use drives::Half;
 
 /// A store of blocks of 1024 bytes, each of which changes as a whole, wherever a crash falls.
 ///
