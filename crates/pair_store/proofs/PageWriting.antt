@@ -4,7 +4,7 @@ use Rattle.drives.specs.Changes.{Changes}
 use Rattle.drives.proofs.Composing.{goes_on, leaves_now, weaker}
 use Rattle.pair_store.specs.declared.fault.PairFault.{PairFault}
 use Rattle.pair_store.specs.declared.fault.PairFault.TheVariants.{ReadFault, WriteFault, BothClosed, BadPage}
-use Rattle.pair_store.specs.Answers.{HasCommit, HasVersion, IsCleared, IsRefused, IsTested, IsWriteFault}
+use Rattle.pair_store.specs.Answers.{HasCommit, HasVersion, IsCleared, IsRefused, IsTested, IsWriteFault, LeftAlone}
 use Rattle.pair_store.specs.Blocks.{OldOrNew, SameContents, SameOthers}
 
 -- contents of a store that holds another
@@ -64,3 +64,10 @@ unrefused (Err (ReadFault h)) only refused = only
 unrefused (Err (WriteFault h)) only refused = refused
 unrefused (Err (BothClosed m)) only refused = only
 unrefused (Err (BadPage m why)) only refused = only
+
+-- a write that failed was one
+pub fault_alone : (e : PairFault) → IsWriteFault e → LeftAlone (Err e) → ⊥
+fault_alone (ReadFault h) is alone = is
+fault_alone (WriteFault h) is alone = alone
+fault_alone (BothClosed m) is alone = is
+fault_alone (BadPage m why) is alone = is

@@ -1,6 +1,7 @@
 // A read of a block's content.
-ghost use Rattle.std.specs.Prelude.{◌≡◌, ◌≢◌, ◌⊎◌, ◌↔◌, None, Some, ℕ, ◌*◌, ◌<◌, ◌≤◌, IfErr, IsErrOf, OnOk};
+ghost use Rattle.std.specs.Prelude.{◌≡◌, ◌≢◌, ◌⊎◌, ◌↔◌, None, Some, ℕ, ◌*◌, ◌<◌, ◌≤◌, IfErr, IsErrOf, OnOk, true};
 ghost use Rattle.drives.specs.declared.device.Half.{Half};
+ghost use Rattle.drives.specs.Faults.{HasFailed};
 ghost use Rattle.drives.specs.Crash.{LeavesSame};
 ghost use Rattle.drives.specs.Changes.{Changes, HalvesLeft, OnHalves, halves_seen};
 ghost use Rattle.pair_store.specs.declared.fault.PairFault.{PairFault};
@@ -8,6 +9,7 @@ ghost use Rattle.pair_store.specs.Answers.{IsReadFault};
 ghost use Rattle.pair_store.specs.Blocks.{SameContents};
 ghost use Rattle.pair_store.specs.Content.{ContentsLeft, IsSettled, IsSettledAlways, content_of};
 ghost use Rattle.pair_store.specs.Faults.{IsUnread};
+ghost use Rattle.pair_store.specs.Found.{IsFound};
 
 use crate::Block;
 use crate::fault::PairFault;
@@ -24,6 +26,9 @@ pub fn read_content<V: Drives>(
     requires { n < V.size drives.old }
     ensures only { IfErr result (IsReadFault n) }
     ensures given { V.tells → IsSettled n (halves_seen V.seen drives.old) → OnOk result (content_of (halves_seen V.seen drives.old) n ≡ Some into.new) }
+    // It is half B's block where that is open, whether the block is settled or not, but where half B failed: then it is half A's.
+    ensures found { V.tells → OnOk result (IsFound true n into.new (halves_seen V.seen drives.old)
+        (HasFailed (V.faults drives.old Half.B) (V.faults drives.new Half.B) (V.last_fault drives.new Half.B))) }
     ensures closed { V.tells → IsErrOf result (PairFault.BothClosed n) → content_of (halves_seen V.seen drives.old) n ≡ None }
     ensures unread { (h : Half) → IsErrOf result (PairFault.ReadFault h)
         → IsUnread (V.faults drives.old) (V.faults drives.new) (V.last_fault drives.new) (V.moment drives.new)

@@ -1,4 +1,4 @@
-use Rattle.std.proofs.Common.{◌≡◌, inl, inr, ℕ, Some, List, Err, sym, ◌∙◌, ap, subst}
+use Rattle.std.proofs.Common.{◌≡◌, ◌≢◌, inl, inr, ℕ, Some, List, Err, sym, ◌∙◌, ap, subst}
 use Rattle.std.proofs.lemmas.Result.{err_from_is_err_and}
 use Rattle.drives.specs.declared.device.Half.TheVariants.{A, B}
 use Rattle.drives.specs.Changes.{Changes, halves_seen}
@@ -8,7 +8,7 @@ use Rattle.pair_store.specs.Blocks.{OldOrNew, SameOthers}
 use Rattle.pair_store.specs.Content.{ContentsLeft}
 use Rattle.pair_store.specs.Pages.{with_commit}
 use Rattle.pair_store.specs.PairLaws.{settled_now}
-use Rattle.pair_store.proofs.PageWriting.{lifted, read_either, read_others, tested_fault, write_either, write_others}
+use Rattle.pair_store.proofs.PageWriting.{fault_alone, lifted, read_either, read_others, tested_fault, write_either, write_others}
 use Rattle.pair_store.proofs.on_halves.PairBlocks.test_and_set.Goals as goal
 
 pub returns-in_err-read_content-clause-unread : goal.returns-in_err-read_content-clause-unread
@@ -114,3 +114,12 @@ returns-in_ok-write_content-in-Ok-Set-clause-images_done g c = λ tells settled 
     let same : body ≡ c.read_content.new.into = cc given in
     let edited = rw c.in-Ok-Set.field-0-is at c.in-Ok-Set.ensures in
     c.in_ok-write_content-in-Ok-Set.ensures.images_done tells f image ∙ ap (λ (b : List ℕ). Some b) (edited.3.is ∙ ap (λ (b : List ℕ). with_commit c.args.next b) (sym same))
+
+pub returns-in_err-write_content-in-Ok-Set-clause-settles_only : goal.returns-in_err-write_content-in-Ok-Set-clause-settles_only
+returns-in_err-write_content-in-Ok-Set-clause-settles_only g c = λ tells k which settled.
+    let p = err_from_is_err_and c.from_residual-in_err-write_content-in-Ok-Set.result c.from_residual-in_err-write_content-in-Ok-Set.ensures.1 in
+    let ne : k ≢ c.args.n = elim which [
+      | inl ne ↦ ne
+      | inr alone ↦ absurd (fault_alone _ c.in_err-write_content-in-Ok-Set.ensures.only (rw (p.1, p.2) at alone))
+    ] in
+    (c.read_content.ensures.kept tells k).0 ((c.write_content.ensures.kept tells k ne).0 settled)
