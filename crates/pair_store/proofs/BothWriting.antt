@@ -1,11 +1,11 @@
 -- A stable write: half B, and then half A.
-use Rattle.std.proofs.Common.{◌≡◌, ◌≢◌, ◌⊎◌, inl, inr, ◌↔◌, ℕ, ◌+◌, ◌*◌, ◌<◌, ◌≤◌, Option, Some, List, length, slice_index, refl, sym, ◌∙◌, ap, subst, arith}
+use Rattle.std.proofs.Common.{◌≡◌, ◌⊎◌, inl, inr, ◌↔◌, ℕ, ◌+◌, ◌*◌, ◌<◌, ◌≤◌, Option, List, length, slice_index, refl, sym, ◌∙◌, subst, arith}
 use Rattle.drives.specs.declared.device.Half.{Half}
 use Rattle.drives.specs.declared.device.Half.TheVariants.{A, B}
-use Rattle.drives.specs.Changes.{Changes, Halves, HalvesLeft, LeavesNow, OnHalves, ViewedLeft}
+use Rattle.drives.specs.Changes.{Changes, Halves, HalvesLeft, LeavesNow, OnHalves}
 use Rattle.drives.proofs.Composing.{goes_on, leaves_now, viewed}
-use Rattle.pair_store.specs.Content.{gate, IsOpen, content_of, ContentsLeft, HasContents, IsSettled, IsSettledAlways}
-use Rattle.pair_store.specs.Stages.{At, HasBody, IsStage, SameElsewhere}
+use Rattle.pair_store.specs.Content.{IsOpen, content_of, ContentsLeft, HasContents, IsSettled, IsSettledAlways}
+use Rattle.pair_store.specs.Stages.{At, HasBody, SameElsewhere}
 use Rattle.pair_store.specs.Blocks.{OldOrNew}
 use Rattle.pair_store.proofs.Contents.{body_content, others_content, stage_content}
 use Rattle.pair_store.proofs.HalfWriting.{Staged}
@@ -62,10 +62,13 @@ module _ {D : Type 0} (moment : D → ℕ) (left : D → Half → ℕ → List �
             written_now
             second
             (λ x y _ r. r)
-            (λ x y z _ r s. inr ((
-              subst (λ (w : List ℕ). SameElsewhere n w z.a) r.0.0 s.0,
-              subst (λ (w : List ℕ). SameElsewhere n x.b w) (sym s.1) r.0.1,
-            ), subst (λ (w : List ℕ). HasBody n body w) (sym s.1) r.1))
+            (λ x y z _ r s. inr (
+              (
+                subst (λ (w : List ℕ). SameElsewhere n w z.a) r.0.0 s.0,
+                subst (λ (w : List ℕ). SameElsewhere n x.b w) (sym s.1) r.0.1,
+              ),
+              subst (λ (w : List ℕ). HasBody n body w) (sym s.1) r.1,
+            ))
 
   -- so each content comes from an old one, and one block changes
   module _ (size : ℕ) (whole : (h : Half) (c : List ℕ) → left old h (moment old) c → length c ≡ 1024 * size) (within : n < size) (full : length body ≡ 1024) (opened : slice_index body 0 ≡ 165) (settled : IsSettledAlways left old (moment old) n) where
@@ -78,8 +81,8 @@ module _ {D : Type 0} (moment : D → ℕ) (left : D → Half → ℕ → List �
           record {
             others = λ k ne. view k ∙ others_content n k x y ne same_a r.1.0;
             here = elim (stage_content n body x y full room opened (settled x image) r.0 r.1.0.size r.1.1) [
-              inl e ↦ inl (view n ∙ e)
-            | inr e ↦ inr (view n ∙ e)
+              | inl e ↦ inl (view n ∙ e)
+              | inr e ↦ inr (view n ∙ e)
             ];
           },
         )
@@ -107,8 +110,8 @@ module _ {D : Type 0} (moment : D → ℕ) (left : D → Half → ℕ → List �
     stuck = changes.stuck;
     past = changes.past;
     own = λ t x low high image.
-      let from = changes.own t x low high image in
-      (from.0, from.1, (subst (λ (w : List ℕ). SameElsewhere n from.0.a w) (sym from.2.0) (elsewhere_same n from.0.a), from.2.1));
+        let from = changes.own t x low high image in
+        (from.0, from.1, (subst (λ (w : List ℕ). SameElsewhere n from.0.a w) (sym from.2.0) (elsewhere_same n from.0.a), from.2.1));
   }
 
   pub both_elsewhere : (mid new : D) → Changes moment (HalvesLeft left) old mid (OnHalves (At B (SameElsewhere n))) → Changes moment (HalvesLeft left) mid new (OnHalves (At A (SameElsewhere n))) → Changes moment (HalvesLeft left) old new (OnHalves (Elsewhere n))

@@ -1,15 +1,12 @@
 -- Contents of blocks on halves of which one is being written.
-use Rattle.std.proofs.Common.{◌≡◌, ◌≢◌, ◌⊎◌, inl, inr, ◌↔◌, ℕ, ◌+◌, ◌-◌, ◌*◌, ◌<◌, ◌≤◌, min, Option, Some, None, Bool, true, false, List, length, take, drop, get_or, slice_index, refl, sym, ◌∙◌, ap, subst, arith, rules, length-take, length-drop}
-use Rattle.std.specs.Prelude.{◌==◌, IsTrue, if◌then◌else◌}
+use Rattle.std.proofs.Common.{◌≡◌, ◌≢◌, ◌⊎◌, inl, inr, ◌↔◌, ℕ, ◌+◌, ◌*◌, ◌<◌, ◌≤◌, Some, Bool, true, false, List, length, slice_index, sym, ◌∙◌, ap, arith, rules}
+use Rattle.std.specs.Prelude.{IsTrue}
 use Rattle.std.proofs.lemmas.Bool.{false≢true}
-use Rattle.std.proofs.lemmas.List.{same_lists, get_or-take, get_or-drop, get_or_default}
-use Rattle.std.proofs.lemmas.Grind.{common_steps}
-use Rattle.std.proofs.lemmas.Bool.Decides.{nat_tests}
+use Rattle.std.proofs.lemmas.List.{same_lists, get_or_default}
 use Rattle.drives.specs.Changes.{Halves}
 use Rattle.pair_store.specs.Content.{gate, IsOpen, block_on, content_of, IsSettled}
 use Rattle.pair_store.specs.ContentLaws.{block_on-at, content_b, content_none, content_open_a, length-block_on}
 use Rattle.pair_store.specs.Stages.{HasBody, IsStage, SameBlock, SameElsewhere}
-use Rattle.pair_store.specs.Blocks.{OldOrNew}
 
 same_numbers : (xs ys : List ℕ) → length xs ≡ length ys → ((i : ℕ) → i < length xs → slice_index xs i ≡ slice_index ys i) → xs ≡ ys
 same_numbers xs ys e h = same_lists xs ys e (λ k d low. get_or_default xs k d 0 low ∙ h k low ∙ sym (get_or_default ys k d 0 (omega (arith, e, low))))
@@ -20,16 +17,16 @@ same_block n x y size same =
     let lx = length-block_on x n in
     let ly = length-block_on y n in
     same_numbers (block_on y n) (block_on x n) (omega (arith, lx, ly, size)) (λ i low.
-      let short : i < 1024 = omega (arith, low, ly) in
-      block_on-at y n i short ∙ same i short ∙ sym (block_on-at x n i short))
+    let short : i < 1024 = omega (arith, low, ly) in
+    block_on-at y n i short ∙ same i short ∙ sym (block_on-at x n i short))
 
 -- a block that has these bytes is them
 pub body_block : (n : ℕ) (body y : List ℕ) → 1024 * n + 1024 ≤ length y → length body ≡ 1024 → HasBody n body y → block_on y n ≡ body
 body_block n body y long size has =
     let ly = length-block_on y n in
     same_numbers (block_on y n) body (omega (arith, ly, long, size)) (λ i low.
-      let short : i < 1024 = omega (arith, low, ly) in
-      block_on-at y n i short ∙ has i short)
+    let short : i < 1024 = omega (arith, low, ly) in
+    block_on-at y n i short ∙ has i short)
 
 apart : (k n : ℕ) → k ≢ n → (k < n) ⊎ (n < k)
 apart k n ne = grind arith
@@ -38,8 +35,8 @@ apart k n ne = grind arith
 pub other_block : (n k : ℕ) (x y : List ℕ) → k ≢ n → SameElsewhere n x y → SameBlock k x y
 other_block n k x y ne same i low =
     elim (apart k n ne) [
-      inl below ↦ same.outside (1024 * k + i) (inl (omega (arith, below, low)))
-    | inr above ↦ same.outside (1024 * k + i) (inr (omega (arith, above, low)))
+      | inl below ↦ same.outside (1024 * k + i) (inl (omega (arith, below, low)))
+      | inr above ↦ same.outside (1024 * k + i) (inr (omega (arith, above, low)))
     ]
 
 pub gate_same : (n : ℕ) (x y : List ℕ) → SameBlock n x y → gate y n ≡ gate x n

@@ -1,10 +1,9 @@
 -- A gate that is torn is closed, or the block is as it was.
-use Rattle.std.proofs.Common.{◌≡◌, ◌≢◌, ◌⊎◌, inl, inr, ℕ, ◌+◌, ◌*◌, ◌<◌, ◌≤◌, zero, suc, List, [], ◌∷◌, length, slice_index, refl, sym, ◌∙◌, ap, arith}
+use Rattle.std.proofs.Common.{◌≡◌, ◌≢◌, ◌⊎◌, inl, inr, ℕ, ◌+◌, ◌*◌, ◌<◌, zero, suc, List, [], ◌∷◌, length, slice_index, sym, ◌∙◌, ap, arith}
 use Rattle.drives.specs.Crash.{HasAt, IsOutside, Torn}
 use Rattle.pair_store.specs.Content.{gate, IsOpen}
 use Rattle.pair_store.specs.ContentLaws.{decide}
 use Rattle.pair_store.specs.Stages.{HasBody, IsStage, SameBlock, SameElsewhere}
-use Rattle.pair_store.proofs.Relations.{torn_again}
 
 -- another spelling of an offset is the same place
 place_is : (xs : List ℕ) (i j : ℕ) → i ≡ j → slice_index xs i ≡ slice_index xs j
@@ -18,8 +17,8 @@ same_byte n x y is opened torn (suc i) = torn.outside (1024 * n + suc i) (inr (o
 pub torn_gate : (n : ℕ) (x y : List ℕ) → IsOpen x n → Torn (1024 * n) 1 x y → Torn (1024 * n) 1 x y × ((gate y n ≢ 165) ⊎ SameBlock n x y)
 torn_gate n x y opened torn =
     elim (decide (gate y n) 165) [
-      inl is ↦ (torn, inr (λ i low. same_byte n x y is opened torn i))
-    | inr not ↦ (torn, inl not)
+      | inl is ↦ (torn, inr (λ i low. same_byte n x y is opened torn i))
+      | inr not ↦ (torn, inl not)
     ]
 
 -- a gate that was written closed is closed
@@ -67,6 +66,6 @@ module _ (n : ℕ) (body rest : List ℕ) (opened : slice_index body 0 ≡ 165) 
   pub torn_open : (x y z : List ℕ) → HasAt (1024 * n + 1) rest y → Torn (1024 * n) 1 y z → IsStage n body x z
   torn_open x y z has torn =
       elim (decide (gate z n) 165) [
-        inl is ↦ inr (inr (opened_body y z has torn is))
-      | inr not ↦ inl not
+        | inl is ↦ inr (inr (opened_body y z has torn is))
+        | inr not ↦ inl not
       ]

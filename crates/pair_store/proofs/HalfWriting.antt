@@ -1,7 +1,7 @@
 -- A block write on one half: closed, body, opened.
-use Rattle.std.proofs.Common.{◌≡◌, ◌≢◌, ◌⊎◌, inl, inr, ℕ, ◌+◌, ◌*◌, List, length, slice_index, refl, sym, ◌∙◌, subst}
+use Rattle.std.proofs.Common.{◌≡◌, ◌≢◌, ◌⊎◌, inl, inr, ℕ, ◌+◌, ◌*◌, List, length, slice_index}
 use Rattle.drives.specs.declared.device.Half.{Half}
-use Rattle.drives.specs.Crash.{HasAt, LeavesOnly, Torn}
+use Rattle.drives.specs.Crash.{HasAt, Torn}
 use Rattle.drives.specs.Changes.{Changes, Halves, HalvesLeft, LeavesNow, OnHalves, bytes_of}
 use Rattle.drives.proofs.Composing.{goes_on, leaves_now}
 use Rattle.pair_store.specs.Content.{gate}
@@ -39,7 +39,7 @@ module _ {D : Type 0} (moment : D → ℕ) (left : D → Half → ℕ → List �
         writing
         (λ x y _ r. At-weaker half (Gate n) (SameElsewhere n) x y (gate_elsewhere n (bytes_of x half) (bytes_of y half)) r)
         (λ x y z _ r s. At-then half (Gate n) (Rest n rest) (SameElsewhere n) x y z
-          (λ a b. torn_again (1024 * n) 1024 _ _ _ (gate_elsewhere n (bytes_of x half) (bytes_of y half) a) (rest_elsewhere n body rest opened long bytes (bytes_of y half) (bytes_of z half) b)) r s)
+        (λ a b. torn_again (1024 * n) 1024 _ _ _ (gate_elsewhere n (bytes_of x half) (bytes_of y half) a) (rest_elsewhere n body rest opened long bytes (bytes_of y half) (bytes_of z half) b)) r s)
 
     -- and where the gate was closed in each image, the block stays closed
     module _ (stages : Changes moment (HalvesLeft left) old closed (OnHalves (At half (Closing n)))) (shut : (c : List ℕ) → left closed half (moment closed) c → gate c n ≢ 165) where
@@ -87,10 +87,10 @@ module _ {D : Type 0} (moment : D → ℕ) (left : D → Half → ℕ → List �
             opening
             (λ x y _ r. r)
             (λ x y z _ r s. At-then half (Ready n rest) (Gate n) (Staged n body) x y z
-              (λ a b. (
-                torn_again (1024 * n) 1024 _ _ _ a.0 (gate_elsewhere n (bytes_of y half) (bytes_of z half) b),
-                torn_open n body rest opened long bytes (bytes_of x half) (bytes_of y half) (bytes_of z half) a.1 b,
-              )) r s)
+            (λ a b. (
+              torn_again (1024 * n) 1024 _ _ _ a.0 (gate_elsewhere n (bytes_of y half) (bytes_of z half) b),
+              torn_open n body rest opened long bytes (bytes_of x half) (bytes_of y half) (bytes_of z half) a.1 b,
+            )) r s)
 
     -- until the gate is open, all other blocks are as they were
     module _ (new : D) (opening : Changes moment (HalvesLeft left) written new (OnHalves (At half (Gate n)))) where
@@ -102,4 +102,4 @@ module _ {D : Type 0} (moment : D → ℕ) (left : D → Half → ℕ → List �
           opening
           (λ x y _ r. r)
           (λ x y z _ r s. At-then half (SameElsewhere n) (Gate n) (SameElsewhere n) x y z
-            (λ a b. torn_again (1024 * n) 1024 _ _ _ a (gate_elsewhere n (bytes_of y half) (bytes_of z half) b)) r s)
+          (λ a b. torn_again (1024 * n) 1024 _ _ _ a (gate_elsewhere n (bytes_of y half) (bytes_of z half) b)) r s)

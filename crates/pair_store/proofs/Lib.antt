@@ -7,3 +7,4 @@ pub mod SettledLaws
 pub mod ReadCauses
 pub mod VersionLaws
 pub mod PageWriting
+pub mod MendLaws

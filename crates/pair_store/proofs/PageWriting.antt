@@ -1,13 +1,10 @@
 -- A read, and then a write of what became of it, as changes of contents.
-use Rattle.std.proofs.Common.{◌≡◌, ◌≢◌, inl, inr, ℕ, ◌-◌, ◌^◌, ◌<◌, ◌≤◌, Option, Some, None, List, Result, Ok, Err, IfErr, refl, sym, ◌∙◌, subst}
-use Rattle.page_codec.specs.Values.{VersionValue}
-use Rattle.page_codec.specs.Causes.{version_of}
-use Rattle.drives.specs.declared.device.Half.{Half}
-use Rattle.drives.specs.Changes.{Changes, LeavesNow}
+use Rattle.std.proofs.Common.{inl, inr, ℕ, Option, None, List, Result, Ok, Err, IfErr, ◌∙◌}
+use Rattle.drives.specs.Changes.{Changes}
 use Rattle.drives.proofs.Composing.{goes_on, leaves_now, weaker}
 use Rattle.pair_store.specs.declared.fault.PairFault.{PairFault}
 use Rattle.pair_store.specs.declared.fault.PairFault.TheVariants.{ReadFault, WriteFault, BothClosed, BadPage}
-use Rattle.pair_store.specs.Answers.{HasCommit, HasVersion, IsCleared, IsRefused, IsTested, IsWriteFault}
+use Rattle.pair_store.specs.Answers.{HasCommit, HasVersion, IsCleared, IsRefused, IsTested, IsWriteFault, LeftAlone}
 use Rattle.pair_store.specs.Blocks.{OldOrNew, SameContents, SameOthers}
 
 -- contents of a store that holds another
@@ -26,24 +23,24 @@ module _ {D : Type 0} (moment : D → ℕ) (left : D → ℕ → (ℕ → Option
   module _ (old mid new : D) (first : Changes moment left old mid SameContents) where
     pub write_others : Changes moment left mid new (SameOthers n) → Changes moment left old new (SameOthers n)
     write_others second = goes_on moment left old mid new SameContents SameContents (SameOthers n) (SameOthers n)
-      first (leaves_now moment left old mid SameContents first) second
-      (λ f g _ same k ne. same k)
-      (λ f g h _ same others k ne. others k ne ∙ same k)
+        first (leaves_now moment left old mid SameContents first) second
+        (λ f g _ same k ne. same k)
+        (λ f g h _ same others k ne. others k ne ∙ same k)
 
     pub write_either : (body : List ℕ) → Changes moment left mid new (OldOrNew n body) → Changes moment left old new (OldOrNew n body)
     write_either body second = goes_on moment left old mid new SameContents SameContents (OldOrNew n body) (OldOrNew n body)
-      first (leaves_now moment left old mid SameContents first) second
-      (λ f g _ same. record { others = λ k ne. same k; here = inl (same n) })
-      (λ f g h _ same either. record {
-        others = λ k ne. either.others k ne ∙ same k;
-        here = elim either.here [ inl e ↦ inl (e ∙ same n) | inr e ↦ inr e ];
-      })
+        first (leaves_now moment left old mid SameContents first) second
+        (λ f g _ same. record { others = λ k ne. same k; here = inl (same n) })
+        (λ f g h _ same either. record {
+          others = λ k ne. either.others k ne ∙ same k;
+          here = elim either.here [ inl e ↦ inl (e ∙ same n) | inr e ↦ inr e ];
+        })
 
     pub write_nothing : Changes moment left mid new SameContents → Changes moment left old new SameContents
     write_nothing second = goes_on moment left old mid new SameContents SameContents SameContents SameContents
-      first (leaves_now moment left old mid SameContents first) second
-      (λ f g _ same. same)
-      (λ f g h _ same then k. then k ∙ same k)
+        first (leaves_now moment left old mid SameContents first) second
+        (λ f g _ same. same)
+        (λ f g h _ same then k. then k ∙ same k)
 
 -- a write that failed followed a reference that was nil
 pub tested_fault : (n : ℕ) (c : Option (List ℕ)) (e : PairFault) → IsWriteFault e → HasCommit c None → IsTested n c (Err e)
@@ -67,3 +64,10 @@ unrefused (Err (ReadFault h)) only refused = only
 unrefused (Err (WriteFault h)) only refused = refused
 unrefused (Err (BothClosed m)) only refused = only
 unrefused (Err (BadPage m why)) only refused = only
+
+-- a write that failed was one
+pub fault_alone : (e : PairFault) → IsWriteFault e → LeftAlone (Err e) → ⊥
+fault_alone (ReadFault h) is alone = is
+fault_alone (WriteFault h) is alone = alone
+fault_alone (BothClosed m) is alone = is
+fault_alone (BadPage m why) is alone = is

@@ -1,10 +1,10 @@
 -- What one call of a half may leave on both.
-use Rattle.std.proofs.Common.{◌≡◌, ℕ, ◌+◌, ◌^◌, ◌<◌, List, length, Result, Ok, Err, OnOk, refl, sym, ◌∙◌, subst, inl, inr}
+use Rattle.std.proofs.Common.{ℕ, List, Result, Ok, Err, OnOk, refl, sym, ◌∙◌, subst}
 use Rattle.drives.specs.declared.device.Half.{Half}
 use Rattle.drives.specs.declared.device.Half.TheVariants.{A, B}
 use Rattle.drives.specs.Half.{other}
-use Rattle.drives.specs.Crash.{LeavesNoMore, LeavesSame, LeavesTorn, SamePast, Ticks, Torn}
-use Rattle.drives.specs.Changes.{Changes, Halves, HalvesLeft, LeavesNow, OnHalves, bytes_of}
+use Rattle.drives.specs.Crash.{LeavesNoMore, LeavesSame, Torn}
+use Rattle.drives.specs.Changes.{Halves, OnHalves, bytes_of}
 use Rattle.pair_store.specs.Stages.{At, Kept}
 
 -- a range is torn at most once more

@@ -1,9 +1,9 @@
 -- Settled blocks, and what leaves them settled.
-use Rattle.std.proofs.Common.{◌≡◌, ◌≢◌, ◌⊎◌, inl, inr, ◌↔◌, ℕ, ◌+◌, ◌*◌, ◌<◌, ◌≤◌, Option, Some, None, List, length, slice_index, refl, sym, ◌∙◌, ap, subst, arith}
+use Rattle.std.proofs.Common.{◌≡◌, ◌≢◌, inl, inr, ◌↔◌, ℕ, ◌+◌, ◌*◌, ◌≤◌, Some, None, List, length, slice_index, refl, sym, ◌∙◌, ap, arith}
 use Rattle.drives.specs.declared.device.Half.{Half}
 use Rattle.drives.specs.declared.device.Half.TheVariants.{A, B}
 use Rattle.drives.specs.Crash.{LeavesSame}
-use Rattle.drives.specs.Changes.{Changes, Halves, HalvesLeft, OnHalves, halves_seen}
+use Rattle.drives.specs.Changes.{Changes, Halves, HalvesLeft, OnHalves}
 use Rattle.drives.proofs.Composing.{viewed}
 use Rattle.pair_store.specs.Content.{gate, IsOpen, block_on, content_of, ContentsLeft, HasContents, IsSettled, IsSettledAlways}
 use Rattle.pair_store.specs.Stages.{HasBody, Kept, SameElsewhere}
@@ -60,21 +60,21 @@ settled_body n body y full whole_a whole_b opened a b =
 -- where a crash leaves the same, it leaves the same blocks settled
 pub settled_left : {D : Type 0} (left : D → Half → ℕ → List ℕ → Type 0) (old new : D) (then now : ℕ) (k : ℕ) → ((h : Half) → LeavesSame (left old h then) (left new h now)) → IsSettledAlways left new now k ↔ IsSettledAlways left old then k
 settled_left left old new then now k same = (
-    λ settled x image. settled x (((same A x.a).1 image.0), ((same B x.b).1 image.1)),
-    λ settled x image. settled x (((same A x.a).0 image.0), ((same B x.b).0 image.1)),
-  )
+  λ settled x image. settled x (((same A x.a).1 image.0), ((same B x.b).1 image.1)),
+  λ settled x image. settled x (((same A x.a).0 image.0), ((same B x.b).0 image.1)),
+)
 
 module _ {D : Type 0} (moment : D → ℕ) (left : D → Half → ℕ → List ℕ → Type 0) (old new : D) where
   -- halves that stay keep their contents
   pub kept_contents : Changes moment (HalvesLeft left) old new (OnHalves Kept) → Changes moment (ContentsLeft left) old new SameContents
   kept_contents changes = viewed moment (HalvesLeft left) HasContents old new (OnHalves Kept) SameContents changes
-    (λ x y f image kept view. (content_of x, λ k. refl, λ k. view k ∙ same_contents x y kept.0 kept.1 k))
+      (λ x y f image kept view. (content_of x, λ k. refl, λ k. view k ∙ same_contents x y kept.0 kept.1 k))
 
   module _ (n : ℕ) (changes : Changes moment (HalvesLeft left) old new (OnHalves (λ h x y. SameElsewhere n x y))) where
     -- a write of one block keeps the contents of all others
     pub other_contents : Changes moment (ContentsLeft left) old new (SameOthers n)
     other_contents = viewed moment (HalvesLeft left) HasContents old new (OnHalves (λ h x y. SameElsewhere n x y)) (SameOthers n) changes
-      (λ x y f image same view. (content_of x, λ k. refl, λ k ne. view k ∙ others_content n k x y ne same.0 same.1))
+        (λ x y f image same view. (content_of x, λ k. refl, λ k ne. view k ∙ others_content n k x y ne same.0 same.1))
 
     -- and what was settled in every image stays so
     pub other_settled : (k : ℕ) → k ≢ n → IsSettledAlways left old (moment old) k → IsSettledAlways left new (moment new) k

@@ -22,6 +22,13 @@ IsWriteFault (WriteFault h) = Unit {0}
 IsWriteFault (BothClosed m) = ⊥
 IsWriteFault (BadPage m why) = ⊥
 
+-- a fault that names a block names this one
+abbrev pub IsFaultAt : ℕ → PairFault → Type 0
+IsFaultAt n (ReadFault h) = Unit {0}
+IsFaultAt n (WriteFault h) = Unit {0}
+IsFaultAt n (BothClosed m) = m ≡ n
+IsFaultAt n (BadPage m why) = m ≡ n
+
 -- the content is a version page with this commit reference
 abbrev pub HasCommit : Option (List ℕ) → Option ℕ → Type 0
 HasCommit c commit = (body : List ℕ) × (v : VersionValue) × (c ≡ Some body) × (version_of body ≡ Ok v) × (v.commit ≡ commit)

@@ -1,5 +1,5 @@
 -- What a block is on two halves.
-use Rattle.std.specs.Prelude.{◌≡◌, ◌≢◌, ◌⊎◌, ◌==◌, ℕ, ◌+◌, ◌*◌, ◌<◌, Option, Some, None, if◌then◌else◌, List, length, take, drop, slice_index}
+use Rattle.std.specs.Prelude.{◌≡◌, ◌≢◌, ◌⊎◌, ◌==◌, ℕ, ◌*◌, Option, Some, None, if◌then◌else◌, List, take, drop, slice_index}
 use Rattle.drives.specs.Changes.{Halves, HalvesLeft, ViewedLeft}
 use Rattle.drives.specs.declared.device.Half.{Half}
 

@@ -1,5 +1,5 @@
 -- What a read of a block gives.
-use Rattle.std.specs.Prelude.{◌≡◌, ◌≢◌, ◌⊎◌, ℕ, Bool, true, false, Option, Some, None, List}
+use Rattle.std.specs.Prelude.{◌≡◌, ◌≢◌, ◌⊎◌, ℕ, Bool, true, false, Some, List}
 use Rattle.drives.specs.Changes.{Halves}
 use Rattle.pair_store.specs.Content.{IsOpen, block_on, content_of, gate}
 

@@ -7,4 +7,5 @@ pub mod Pages
 pub mod Edits
 pub mod Answers
 pub mod Found
+pub mod Mending
 pub mod PairLaws

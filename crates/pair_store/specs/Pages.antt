@@ -1,5 +1,5 @@
 -- What the calls on version pages change in them.
-use Rattle.std.specs.Prelude.{ℕ, Option, Some, List, []}
+use Rattle.std.specs.Prelude.{ℕ, Some, List, []}
 use Rattle.page_codec.specs.Reading.{version_value}
 use Rattle.page_codec.specs.Spelling.{version_bytes}
 

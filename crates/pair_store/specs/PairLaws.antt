@@ -1,9 +1,9 @@
 -- Why the contents of two halves are those of a store.
-use Rattle.std.specs.Prelude.{◌≡◌, ◌≢◌, ◌⊎◌, ℕ, ◌+◌, ◌*◌, ◌<◌, ◌≤◌, Option, Some, None, List, length, slice_index}
+use Rattle.std.specs.Prelude.{◌≡◌, ℕ, ◌+◌, ◌*◌, ◌<◌, Option, Some, None, List, length, slice_index}
 use Rattle.std.proofs.Common.{refl, sym, ◌∙◌, ap, inl, inr, arith}
 use Rattle.drives.specs.declared.device.Half.{Half}
 use Rattle.drives.specs.declared.device.Half.TheVariants.{A, B}
-use Rattle.drives.specs.Changes.{Halves, HalvesLeft}
+use Rattle.drives.specs.Changes.{Halves}
 use Rattle.pair_store.specs.Content.{ContentsLeft, IsOpen, IsSettled, IsSettledAlways, block_on, content_of, gate}
 use Rattle.pair_store.specs.ContentLaws.{block_on-at, content_b, content_none, content_open_a, decide, length-block_on}
 
@@ -11,26 +11,25 @@ use Rattle.pair_store.specs.ContentLaws.{block_on-at, content_b, content_none, c
 open_block : (n : ℕ) (body half : List ℕ) (size : ℕ) → length half ≡ 1024 * size → n < size → IsOpen half n → block_on half n ≡ body → (length body ≡ 1024) × (slice_index body 0 ≡ 165)
 open_block n body half size whole low is_open is =
     let long = length-block_on half n in
-    let size_is : length (block_on half n) ≡ length body = ap (λ (b : List ℕ). length b) is in
-    (
+    let size_is : length (block_on half n) ≡ length body = ap (λ (b : List ℕ). length b) is in (
       Prim.omega (arith, long, size_is, whole, low),
       sym (ap (λ (b : List ℕ). slice_index b 0) is) ∙ block_on-at half n 0 (Prim.omega arith)
-      ∙ ap (λ (i : ℕ). slice_index half i) (let e : 1024 * n + 0 ≡ 1024 * n = Prim.omega arith in e) ∙ is_open,
+          ∙ ap (λ (i : ℕ). slice_index half i) (let e : 1024 * n + 0 ≡ 1024 * n = Prim.omega arith in e) ∙ is_open,
     )
 
 pub content_whole : (n : ℕ) (body : List ℕ) (x : Halves) (size : ℕ) → length x.a ≡ 1024 * size → length x.b ≡ 1024 * size → n < size → content_of x n ≡ Some body → (length body ≡ 1024) × (slice_index body 0 ≡ 165)
 content_whole n body x size whole_a whole_b low is =
     elim (decide (gate x.b n) 165) [
-      inl is_open ↦
-        let same : Some (block_on x.b n) ≡ Some body = sym (content_b x n is_open) ∙ is in
-        open_block n body x.b size whole_b low is_open (Prim.cc same)
-    | inr shut ↦ elim (decide (gate x.a n) 165) [
-        inl is_open ↦
-          let same : Some (block_on x.a n) ≡ Some body = sym (content_open_a x n shut is_open) ∙ is in
-          open_block n body x.a size whole_a low is_open (Prim.cc same)
-      | inr shut_a ↦
-          let none : None ≡ Some body = sym (content_none x n shut shut_a) ∙ is in
-          absurd (Prim.cc none)
+      | inl is_open ↦
+          let same : Some (block_on x.b n) ≡ Some body = sym (content_b x n is_open) ∙ is in
+          open_block n body x.b size whole_b low is_open (Prim.cc same)
+      | inr shut ↦ elim (decide (gate x.a n) 165) [
+        | inl is_open ↦
+            let same : Some (block_on x.a n) ≡ Some body = sym (content_open_a x n shut is_open) ∙ is in
+            open_block n body x.a size whole_a low is_open (Prim.cc same)
+        | inr shut_a ↦
+            let none : None ≡ Some body = sym (content_none x n shut shut_a) ∙ is in
+            absurd (Prim.cc none)
       ]
     ]
 

@@ -7,11 +7,10 @@ ghost use Rattle.pair_store.specs.Content.{ContentsLeft, IsSettledAlways};
 ghost use Rattle.pair_store.specs.Stages.{HasBody, SameElsewhere};
 ghost use Rattle.pair_store.specs.Blocks.{OldOrNew};
 
-use drives::{Drives, Half};
-
 use crate::Block;
 use crate::fault::PairFault;
 use crate::half_write::write_half;
+use drives::{Drives, Half};
 
 /// Writes a block with an open gate on both halves. Its content is the old one or the new one in each image, where it
 /// was settled in every image; all other blocks are as they were, whether it was or not.
@@ -25,6 +24,9 @@ pub fn write_both<V: Drives>(drives: &mut V, n: u32, body: &Block) -> Result<(),
     ensures done { V.tells → OnOk result ((x : Halves) → HalvesLeft V.may_leave drives.new (V.moment drives.new) x → HasBody n body.now x.a × HasBody n body.now x.b) }
     ensures seen { V.tells → OnOk result ((h : Half) → HasBody n body.now (V.seen drives.new h)) }
     ensures range { V.tells → (h : Half) → SameElsewhere n (V.seen drives.old h) (V.seen drives.new h) }
+    // Half A is not touched before half B is done.
+    ensures first { V.tells → IsErrOf result (PairFault.WriteFault Half.B) → V.seen drives.new Half.A ≡ V.seen drives.old Half.A }
+    ensures second { V.tells → IsErrOf result (PairFault.WriteFault Half.A) → HasBody n body.now (V.seen drives.new Half.B) }
     ensures size { V.size drives.new ≡ V.size drives.old }
     ensures later { (h : Half) → (V.faults drives.old h ≤ V.faults drives.new h) × (V.last_fault drives.old h ≤ V.last_fault drives.new h) }
     ensures cause { (h : Half) → IsErrOf result (PairFault.WriteFault h)

@@ -1,6 +1,7 @@
 // A read of a block's content.
-ghost use Rattle.std.specs.Prelude.{◌≡◌, ◌≢◌, ◌⊎◌, ◌↔◌, None, Some, ℕ, ◌*◌, ◌<◌, ◌≤◌, IfErr, IsErrOf, OnOk};
+ghost use Rattle.std.specs.Prelude.{◌≡◌, ◌≢◌, ◌⊎◌, ◌↔◌, None, Some, ℕ, ◌*◌, ◌<◌, ◌≤◌, IfErr, IsErrOf, OnOk, true};
 ghost use Rattle.drives.specs.declared.device.Half.{Half};
+ghost use Rattle.drives.specs.Faults.{HasFailed};
 ghost use Rattle.drives.specs.Crash.{LeavesSame};
 ghost use Rattle.drives.specs.Changes.{Changes, HalvesLeft, OnHalves, halves_seen};
 ghost use Rattle.pair_store.specs.declared.fault.PairFault.{PairFault};
@@ -8,23 +9,30 @@ ghost use Rattle.pair_store.specs.Answers.{IsReadFault};
 ghost use Rattle.pair_store.specs.Blocks.{SameContents};
 ghost use Rattle.pair_store.specs.Content.{ContentsLeft, IsSettled, IsSettledAlways, content_of};
 ghost use Rattle.pair_store.specs.Faults.{IsUnread};
-
-use afs_base::BlockNo;
-use drives::Drives;
+ghost use Rattle.pair_store.specs.Found.{IsFound};
 
 use crate::Block;
 use crate::fault::PairFault;
 use crate::read::read_both;
+use afs_base::BlockNo;
+use drives::Drives;
 
 /// Reads the content of a block. After an error the buffer holds anything.
-pub fn read_content<V: Drives>(drives: &mut V, n: BlockNo, into: &mut Block) -> Result<(), PairFault>
+pub fn read_content<V: Drives>(
+    drives: &mut V,
+    n: BlockNo,
+    into: &mut Block,
+) -> Result<(), PairFault>
     requires { n < V.size drives.old }
     ensures only { IfErr result (IsReadFault n) }
     ensures given { V.tells → IsSettled n (halves_seen V.seen drives.old) → OnOk result (content_of (halves_seen V.seen drives.old) n ≡ Some into.new) }
+    // It is half B's block where that is open, whether the block is settled or not, but where half B failed: then it is half A's.
+    ensures found { V.tells → OnOk result (IsFound true n into.new (halves_seen V.seen drives.old)
+        (HasFailed (V.faults drives.old Half.B) (V.faults drives.new Half.B) (V.last_fault drives.new Half.B))) }
     ensures closed { V.tells → IsErrOf result (PairFault.BothClosed n) → content_of (halves_seen V.seen drives.old) n ≡ None }
     ensures unread { (h : Half) → IsErrOf result (PairFault.ReadFault h)
         → IsUnread (V.faults drives.old) (V.faults drives.new) (V.last_fault drives.new) (V.moment drives.new)
-          (V.tells → IsSettled n (halves_seen V.seen drives.old) → content_of (halves_seen V.seen drives.old) n ≡ None) h }
+        (V.tells → IsSettled n (halves_seen V.seen drives.old) → content_of (halves_seen V.seen drives.old) n ≡ None) h }
     ensures seen { V.tells → (h : Half) → V.seen drives.new h ≡ V.seen drives.old h }
     ensures same { V.tells → SameContents (content_of (halves_seen V.seen drives.old)) (content_of (halves_seen V.seen drives.new)) }
     ensures kept { V.tells → (k : ℕ) → IsSettled k (halves_seen V.seen drives.new) ↔ IsSettled k (halves_seen V.seen drives.old) }

@@ -8,12 +8,11 @@ ghost use Rattle.pair_store.specs.Blocks.{OldOrNew, SameOthers};
 ghost use Rattle.pair_store.specs.Content.{ContentsLeft, IsSettled, IsSettledAlways, content_of};
 ghost use Rattle.pair_store.specs.Faults.{IsStopped};
 
-use afs_base::BlockNo;
-use drives::Drives;
-
 use crate::Block;
 use crate::both::write_both;
 use crate::fault::PairFault;
+use afs_base::BlockNo;
+use drives::Drives;
 
 /// Writes a block with an open gate as its content.
 pub fn write_content<V: Drives>(drives: &mut V, n: BlockNo, body: &Block) -> Result<(), PairFault>

@@ -8,9 +8,8 @@ ghost use Rattle.drives.specs.Changes.{Changes, HalvesLeft, OnHalves};
 ghost use Rattle.pair_store.specs.Content.{gate, IsOpen};
 ghost use Rattle.pair_store.specs.Stages.{At, Kept, SameBlock, IsKnownGate};
 
-use drives::{Drives, Failed, Half};
-
 use crate::steps::{read_bytes, write_synced};
+use drives::{Drives, Failed, Half};
 
 /// The gate of a block that may be read; every other byte is a closed gate.
 pub const OPEN: u8 = 0xa5;
@@ -42,6 +41,7 @@ pub fn close_gate<V: Drives>(drives: &mut V, half: Half, n: u32) -> Result<(), F
     ensures changes { Changes V.moment (HalvesLeft V.may_leave) drives.old drives.new (OnHalves (At half (Torn (1024 * n) 1))) }
     ensures stages { V.tells → IsKnownGate V.seen V.moment V.may_leave drives.old half n
         → Changes V.moment (HalvesLeft V.may_leave) drives.old drives.new (OnHalves (At half (λ x y. Torn (1024 * n) 1 x y × ((gate y n ≢ 165) ⊎ SameBlock n x y)))) }
+    ensures seen_stages { V.tells → (gate (V.seen drives.new half) n ≢ 165) ⊎ SameBlock n (V.seen drives.old half) (V.seen drives.new half) }
     ensures left_closed { V.tells → IsKnownGate V.seen V.moment V.may_leave drives.old half n
         → OnOk result ((c : List ℕ) → V.may_leave drives.new half (V.moment drives.new) c → gate c n ≢ 165) }
     ensures size { V.size drives.new ≡ V.size drives.old }

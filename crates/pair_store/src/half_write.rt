@@ -7,11 +7,10 @@ ghost use Rattle.drives.specs.Faults.{HasFault};
 ghost use Rattle.drives.specs.Changes.{Changes, HalvesLeft, OnHalves};
 ghost use Rattle.pair_store.specs.Stages.{At, HasBody, IsStage, SameElsewhere, IsKnownGate};
 
-use drives::{Drives, Failed, Half};
-
 use crate::Block;
 use crate::gates::{OPEN, close_gate};
 use crate::steps::write_synced;
+use drives::{Drives, Failed, Half};
 
 // All bytes but the gate.
 fn behind_gate(body: &[u8]) -> &[u8]
@@ -33,6 +32,7 @@ pub fn write_half<V: Drives>(drives: &mut V, half: Half, n: u32, body: &Block) -
     ensures changes { Changes V.moment (HalvesLeft V.may_leave) drives.old drives.new (OnHalves (At half (SameElsewhere n))) }
     ensures stages { V.tells → IsKnownGate V.seen V.moment V.may_leave drives.old half n
         → Changes V.moment (HalvesLeft V.may_leave) drives.old drives.new (OnHalves (At half (λ x y. SameElsewhere n x y × IsStage n body.now x y))) }
+    ensures seen_stages { V.tells → IsStage n body.now (V.seen drives.old half) (V.seen drives.new half) }
     ensures size { V.size drives.new ≡ V.size drives.old }
     ensures cause { HasFault (V.faults drives.old half) (V.faults drives.new half) (V.last_fault drives.old half) (V.last_fault drives.new half) (V.moment drives.new) result }
     ensures other { (V.faults drives.new (other half) ≡ V.faults drives.old (other half)) × (V.last_fault drives.new (other half) ≡ V.last_fault drives.old (other half)) }

@@ -7,6 +7,7 @@ mod content_write;
 mod fault;
 mod gates;
 mod half_write;
+mod mend;
 mod on_halves;
 mod outcome;
 mod read;
@@ -20,3 +21,6 @@ pub use on_halves::Pair;
 pub use outcome::{Mended, Tas};
 pub use page_codec::Block;
 pub use store::Blocks;
+
+#[cfg(test)]
+mod tests;

@@ -1,19 +1,23 @@
 // Two halves as a store of blocks.
-ghost use Rattle.std.specs.Prelude.{◌≡◌, ℕ, ◌+◌, ◌-◌, ◌*◌, ◌^◌, ◌<◌, ◌≤◌};
+ghost use Rattle.std.specs.Prelude.{◌≡◌, ◌≢◌, ◌⊎◌, ◌↔◌, ℕ, ◌+◌, ◌-◌, ◌*◌, ◌^◌, ◌<◌, ◌≤◌, min, IfErr, OnOk};
 ghost use Rattle.drives.specs.declared.device.Half.{Half};
-ghost use Rattle.drives.specs.Changes.{halves_seen};
+ghost use Rattle.drives.specs.Changes.{Changes, IsAtRest, halves_seen};
+ghost use Rattle.drives.specs.Crash.{LeavesSame};
+ghost use Rattle.pair_store.specs.Blocks.{SameContents, SameOthers};
 ghost use Rattle.pair_store.specs.Content.{ContentsLeft, IsSettled, IsSettledAlways, content_of};
-
-use afs_base::BlockNo;
-use drives::Drives;
+ghost use Rattle.pair_store.specs.Faults.{IsStopped};
+ghost use Rattle.pair_store.specs.Mending.{IsCopy, IsFaultOf, IsHalfFault, IsMended, WroteNothing};
 
 use crate::Block;
 use crate::content_read::read_content;
 use crate::content_write::write_content;
 use crate::fault::PairFault;
-use crate::outcome::Tas;
+use crate::mend::mend_block;
+use crate::outcome::{Mended, Tas};
 use crate::store::Blocks;
 use crate::version_edit::{drop_members, set_commit};
+use afs_base::BlockNo;
+use drives::Drives;
 
 /// Two halves that keep each block twice, and the number of operations on them.
 #[derive(Drop)]
@@ -50,6 +54,43 @@ impl<V: Drives> Pair<V> {
         ensures { result.now ≡ self.now.drives }
     {
         &self.drives
+    }
+
+    /// Reads a block on both halves, and makes the other half equal to the half that gives its content. No content changes, whichever call
+    /// fails and wherever a crash falls, so mending may be cut off and begun anew. It ends at its first failed call, with the half that failed
+    /// then, and answers no fault but `ReadFault` and `WriteFault`. It does not count as an operation.
+    pub fn mend(&mut self, n: BlockNo) -> Result<Mended, PairFault>
+        requires { n < V.size self.old.drives }
+        ensures only { IfErr result IsHalfFault }
+        ensures answer { V.tells → IsMended n (halves_seen V.seen self.old.drives) result }
+        ensures stopped { (h : Half) → IsFaultOf h result
+            → IsStopped (V.faults self.old.drives) (V.faults self.new.drives) (V.last_fault self.new.drives) (V.moment self.new.drives) h }
+        ensures unfailed { (h : Half) → (IsFaultOf h result → ⊥)
+            → (V.faults self.new.drives h ≡ V.faults self.old.drives h) × (V.last_fault self.new.drives h ≡ V.last_fault self.old.drives h) }
+
+        ensures contents { V.tells → SameContents (⟦<Pair<V> as Blocks>⟧.content self.old) (⟦<Pair<V> as Blocks>⟧.content self.new) }
+        // The half that is copied from stays as it is.
+        ensures source { V.tells → (from : Half) → IsCopy from result → V.seen self.new.drives from ≡ V.seen self.old.drives from }
+        ensures unwritten { WroteNothing result → (h : Half) → (V.tells → V.seen self.new.drives h ≡ V.seen self.old.drives h)
+            × LeavesSame (V.may_leave self.old.drives h (V.moment self.old.drives)) (V.may_leave self.new.drives h (V.moment self.new.drives)) }
+        ensures reads { WroteNothing result → OnOk result (V.moment self.new.drives ≡ min (V.moment self.old.drives + 2) (2 ^ 64 - 1)) }
+        ensures settles { V.tells → OnOk result (⟦<Pair<V> as Blocks>⟧.settled self.new n) }
+        ensures kept { V.tells → (k : ℕ) → (k ≢ n) ⊎ WroteNothing result → ⟦<Pair<V> as Blocks>⟧.settled self.new k ↔ ⟦<Pair<V> as Blocks>⟧.settled self.old k }
+        ensures kept_always { (k : ℕ) → (k ≢ n) ⊎ WroteNothing result → ⟦<Pair<V> as Blocks>⟧.settled_always self.old k → ⟦<Pair<V> as Blocks>⟧.settled_always self.new k }
+
+        // These three hold where nothing is pending as the call begins: a crash then leaves what reads give.
+        ensures images { V.tells → IsAtRest V.seen V.moment V.may_leave self.old.drives
+            → Changes ⟦<Pair<V> as Blocks>⟧.moment ⟦<Pair<V> as Blocks>⟧.may_leave self.old self.new SameContents }
+        ensures settles_always { V.tells → IsAtRest V.seen V.moment V.may_leave self.old.drives → OnOk result (⟦<Pair<V> as Blocks>⟧.settled_always self.new n) }
+        ensures rest { V.tells → IsAtRest V.seen V.moment V.may_leave self.old.drives → OnOk result (IsAtRest V.seen V.moment V.may_leave self.new.drives) }
+        ensures images_unwritten { WroteNothing result → Changes ⟦<Pair<V> as Blocks>⟧.moment ⟦<Pair<V> as Blocks>⟧.may_leave self.old self.new SameContents }
+        ensures images_others { Changes ⟦<Pair<V> as Blocks>⟧.moment ⟦<Pair<V> as Blocks>⟧.may_leave self.old self.new (SameOthers n) }
+
+        ensures uncounted { self.new.operations ≡ self.old.operations }
+        ensures later { (h : Half) → (V.faults self.old.drives h ≤ V.faults self.new.drives h) × (V.last_fault self.old.drives h ≤ V.last_fault self.new.drives h) }
+        ensures size { V.size self.new.drives ≡ V.size self.old.drives }
+    {
+        mend_block(&mut self.drives, n.get())
     }
 }
 

@@ -9,14 +9,18 @@ ghost use Rattle.pair_store.specs.Content.{IsOpen, IsSettled, block_on, content_
 ghost use Rattle.pair_store.specs.Found.{IsFound};
 ghost use Rattle.pair_store.specs.Stages.{HasBody, Kept};
 
-use drives::{Drives, Failed, Half};
-
 use crate::Block;
 use crate::gates::OPEN;
 use crate::steps::read_bytes;
+use drives::{Drives, Failed, Half};
 
 /// Reads a block of one half, and tells whether its gate is open.
-pub fn read_half<V: Drives>(drives: &mut V, half: Half, n: u32, into: &mut Block) -> Result<bool, Failed>
+pub fn read_half<V: Drives>(
+    drives: &mut V,
+    half: Half,
+    n: u32,
+    into: &mut Block,
+) -> Result<bool, Failed>
     requires { n < V.size drives.old }
     ensures open { V.tells → IfOk result (λ is_open. IsTrue is_open ↔ IsOpen (V.seen drives.old half) n) }
     ensures bytes { V.tells → OnOk result (HasBody n into.new (V.seen drives.old half)) }

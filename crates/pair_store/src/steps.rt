@@ -10,7 +10,12 @@ ghost use Rattle.pair_store.specs.Stages.{At, Kept};
 use drives::{Drives, Failed, Half};
 
 /// Reads a range of a half.
-pub fn read_bytes<V: Drives>(drives: &mut V, half: Half, at: u64, buf: &mut [u8]) -> Result<(), Failed>
+pub fn read_bytes<V: Drives>(
+    drives: &mut V,
+    half: Half,
+    at: u64,
+    buf: &mut [u8],
+) -> Result<(), Failed>
     requires { at + length buf.old ≤ 1024 * V.size drives.old }
     ensures read { V.tells → OnOk result (HasAt at buf.new (V.seen drives.old half)) }
     ensures same { V.tells → (h : Half) → V.seen drives.new h ≡ V.seen drives.old h }
@@ -25,7 +30,12 @@ pub fn read_bytes<V: Drives>(drives: &mut V, half: Half, at: u64, buf: &mut [u8]
 }
 
 /// Writes over a range of a half, and syncs that half.
-pub fn write_synced<V: Drives>(drives: &mut V, half: Half, at: u64, bytes: &[u8]) -> Result<(), Failed>
+pub fn write_synced<V: Drives>(
+    drives: &mut V,
+    half: Half,
+    at: u64,
+    bytes: &[u8],
+) -> Result<(), Failed>
     requires { at + length bytes.now ≤ 1024 * V.size drives.old }
     ensures written { V.tells → OnOk result (HasAt at bytes.now (V.seen drives.new half)) }
     ensures range { V.tells → Torn at (length bytes.now) (V.seen drives.old half) (V.seen drives.new half) }

@@ -3,17 +3,16 @@ ghost use Rattle.std.specs.Prelude.{◌≡◌, ◌≢◌, ◌⊎◌, ◌↔◌, 
 ghost use Rattle.drives.specs.declared.device.Half.{Half};
 ghost use Rattle.drives.specs.Changes.{Changes};
 ghost use Rattle.pair_store.specs.declared.fault.PairFault.{PairFault};
-ghost use Rattle.pair_store.specs.Answers.{IsCleared, IsRefused, IsReadFault, IsSet, IsTested, IsUntorn, IsWriteFault, LeftAlone};
+ghost use Rattle.pair_store.specs.Answers.{IsCleared, IsFaultAt, IsRefused, IsReadFault, IsSet, IsTested, IsUntorn, IsWriteFault, LeftAlone};
 ghost use Rattle.pair_store.specs.Blocks.{CountsOne, OldOrNew, SameContents, SameOthers};
 ghost use Rattle.pair_store.specs.Faults.{IsStopped, IsUnread};
 ghost use Rattle.pair_store.specs.Pages.{with_commit, without_members};
 
-use afs_base::BlockNo;
-use drives::Half;
-
 use crate::Block;
 use crate::fault::PairFault;
 use crate::outcome::Tas;
+use afs_base::BlockNo;
+use drives::Half;
 
 /// A store of blocks of 1024 bytes, each of which changes as a whole, wherever a crash falls.
 ///
@@ -110,6 +109,7 @@ pub trait Blocks {
     fn test_and_set(&mut self, n: BlockNo, next: BlockNo) -> Result<Tas, PairFault>
         requires block { n < size self.old }
         requires named { 0 < next }
+        ensures only { IfErr result (IsFaultAt n) }
         ensures answer { tells → settled self.old n → IsTested n (content self.old n) result }
         ensures closed { tells → IsErrOf result (PairFault.BothClosed n) → content self.old n ≡ None }
         ensures unread { (h : Half) → IsErrOf result (PairFault.ReadFault h)
@@ -140,6 +140,7 @@ pub trait Blocks {
     /// Writes a version page anew with no members.
     fn clear_members(&mut self, n: BlockNo) -> Result<(), PairFault>
         requires { n < size self.old }
+        ensures only { IfErr result (IsFaultAt n) }
         ensures answer { tells → settled self.old n → IsCleared n (content self.old n) result }
         ensures closed { tells → IsErrOf result (PairFault.BothClosed n) → content self.old n ≡ None }
         ensures unread { (h : Half) → IsErrOf result (PairFault.ReadFault h)

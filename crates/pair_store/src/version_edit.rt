@@ -3,11 +3,10 @@ ghost use Rattle.std.specs.Prelude.{◌≡◌, ◌<◌, Err, None, slice_index};
 ghost use Rattle.page_codec.specs.Causes.{version_of};
 ghost use Rattle.pair_store.specs.Edits.{ClearsMembers, SetsCommit};
 
-use afs_base::BlockNo;
-use page_codec::{BadPage, Members, decode_version, encode_version};
-
 use crate::Block;
 use crate::outcome::Tas;
+use afs_base::BlockNo;
+use page_codec::{BadPage, Members, decode_version, encode_version};
 
 /// Sets the commit reference of the version page in a block, where it is nil; else the block stays.
 pub fn set_commit(block: &mut Block, next: BlockNo) -> Result<Tas, BadPage>

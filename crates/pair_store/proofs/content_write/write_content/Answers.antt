@@ -1,4 +1,4 @@
-use Rattle.std.proofs.Common.{◌≡◌, ◌+◌, ◌*◌, ◌<◌, ◌≤◌, ℕ, List, length, OnOk, arith, subst, ◌∙◌}
+use Rattle.std.proofs.Common.{◌≡◌, ◌+◌, ◌*◌, ◌≤◌, ℕ, length, OnOk, arith, subst, ◌∙◌}
 use Rattle.std.proofs.lemmas.Result.{on_ok_weaker}
 use Rattle.drives.specs.declared.device.Half.{Half}
 use Rattle.drives.specs.declared.device.Half.TheVariants.{A, B}
@@ -49,10 +49,10 @@ returns-clause-settles_always g c = λ tells.
     let now = g.V.Drives.moment new in
     let on_disk = subst (λ (m : ℕ). OnOk c.write_both.result ((x : Halves) → HalvesLeft left new now x → HasBody m c.args.body.now x.a × HasBody m c.args.body.now x.b)) c.get.ensures.value (c.write_both.ensures.done tells) in
     on_ok_weaker c.write_both.result (λ has x image.
-      let both = has x image in
-      let whole_a : 1024 * n + 1024 ≤ length x.a = omega (arith, g.met.V.Drives.left_whole new A x.a image.0, c.write_both.ensures.size, c.requires.block) in
-      let whole_b : 1024 * n + 1024 ≤ length x.b = omega (arith, g.met.V.Drives.left_whole new B x.b image.1, c.write_both.ensures.size, c.requires.block) in
-      settled_body n c.args.body.now x full whole_a whole_b c.requires.open both.0 both.1) on_disk
+    let both = has x image in
+    let whole_a : 1024 * n + 1024 ≤ length x.a = omega (arith, g.met.V.Drives.left_whole new A x.a image.0, c.write_both.ensures.size, c.requires.block) in
+    let whole_b : 1024 * n + 1024 ≤ length x.b = omega (arith, g.met.V.Drives.left_whole new B x.b image.1, c.write_both.ensures.size, c.requires.block) in
+    settled_body n c.args.body.now x full whole_a whole_b c.requires.open both.0 both.1) on_disk
 
 pub returns-clause-images_done : goal.returns-clause-images_done
 returns-clause-images_done g c = λ tells.
@@ -63,10 +63,10 @@ returns-clause-images_done g c = λ tells.
     let now = g.V.Drives.moment new in
     let on_disk = subst (λ (m : ℕ). OnOk c.write_both.result ((x : Halves) → HalvesLeft left new now x → HasBody m c.args.body.now x.a × HasBody m c.args.body.now x.b)) c.get.ensures.value (c.write_both.ensures.done tells) in
     on_ok_weaker c.write_both.result (λ has f image.
-      let x = image.0 in
-      let both = has x image.1 in
-      let whole : 1024 * n + 1024 ≤ length x.b = omega (arith, g.met.V.Drives.left_whole new B x.b image.1.1, c.write_both.ensures.size, c.requires.block) in
-      image.2 n ∙ body_content n c.args.body.now x full whole c.requires.open both.1) on_disk
+    let x = image.0 in
+    let both = has x image.1 in
+    let whole : 1024 * n + 1024 ≤ length x.b = omega (arith, g.met.V.Drives.left_whole new B x.b image.1.1, c.write_both.ensures.size, c.requires.block) in
+    image.2 n ∙ body_content n c.args.body.now x full whole c.requires.open both.1) on_disk
 
 pub returns-clause-kept_always : goal.returns-clause-kept_always
 returns-clause-kept_always g c =

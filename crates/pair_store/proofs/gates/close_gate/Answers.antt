@@ -1,6 +1,6 @@
-use Rattle.std.proofs.Common.{◌≡◌, ℕ, ◌*◌, List, rules}
+use Rattle.std.proofs.Common.{ℕ, ◌*◌, List, rules}
 use Rattle.drives.specs.Crash.{Torn}
-use Rattle.drives.specs.Changes.{Halves, HalvesLeft, OnHalves, bytes_of}
+use Rattle.drives.specs.Changes.{HalvesLeft, OnHalves, bytes_of}
 use Rattle.drives.proofs.Composing.{goes_on, leaves_now, weaker}
 use Rattle.pair_store.specs.Content.{IsOpen}
 use Rattle.pair_store.specs.Stages.{At, Kept}
@@ -34,5 +34,5 @@ returns-clause-stages g c = λ tells known.
     weaker now (HalvesLeft left) old c.write_synced.new.drives (OnHalves (At half gate)) (OnHalves (At half (Closing n)))
     (returns-clause-changes g c)
     (λ x y image r.
-      let is_open = (known (bytes_of x half) (image_of_half (λ h. left old h (now old)) x image half)).1 read_open in
-      At-weaker half gate (Closing n) x y (torn_gate n (bytes_of x half) (bytes_of y half) is_open) r)
+    let is_open = (known (bytes_of x half) (image_of_half (λ h. left old h (now old)) x image half)).1 read_open in
+    At-weaker half gate (Closing n) x y (torn_gate n (bytes_of x half) (bytes_of y half) is_open) r)

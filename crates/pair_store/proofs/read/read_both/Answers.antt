@@ -45,5 +45,5 @@ returns-in-Ok-true-read_half-2-clause-found g c = λ tells.
     let fault = c.in-Err.ensures.cause.failed in
     let stays = c.read_half-in-Err.ensures.other in
     let failed = subst (λ (k : ℕ). HasFailed (g.V.Drives.faults old B) k (g.V.Drives.last_fault new B)) (sym stays.0)
-      (subst (λ (t : ℕ). HasFailed (g.V.Drives.faults old B) (g.V.Drives.faults mid B) t) (sym (stays.1 ∙ fault.1)) fault.0) in
+    (subst (λ (t : ℕ). HasFailed (g.V.Drives.faults old B) (g.V.Drives.faults mid B) t) (sym (stays.1 ∙ fault.1)) fault.0) in
     inr (failed, is_open, body_block n into (g.V.Drives.seen old A) whole full has)

@@ -35,6 +35,6 @@ returns-clause-changes g c =
     first
     (leaves_now now (HalvesLeft left) old mid (OnHalves (At half torn)) first)
     (call_changes now left mid new Kept (λ h x. refl) (g.met.V.Drives.clock mid) c.sync.ensures.time c.sync.ensures.past
-      (sync_leaves (λ h. left mid h (now mid)) (λ h. left new h (now new)) half c.sync.ensures.crash c.sync.ensures.other_crash))
+    (sync_leaves (λ h. left mid h (now mid)) (λ h. left new h (now new)) half c.sync.ensures.crash c.sync.ensures.other_crash))
     (λ x y left r. r)
     (λ x y z left r kept. At-kept half torn x y z r kept)

@@ -1,4 +1,4 @@
-use Rattle.std.proofs.Common.{◌≡◌, ◌≢◌, inl, inr, ℕ, Some, None, List, Err, sym, ◌∙◌, ap, subst}
+use Rattle.std.proofs.Common.{◌≡◌, inl, inr, ℕ, Some, List, Err, sym, ◌∙◌, ap, subst}
 use Rattle.std.proofs.lemmas.Result.{err_from_is_err_and, on_ok_weaker}
 use Rattle.drives.specs.declared.device.Half.TheVariants.{A, B}
 use Rattle.drives.specs.Changes.{Changes, halves_seen}
@@ -55,7 +55,7 @@ returns-in-Ok-clause-images g c = λ tells settled body is.
     let same : body ≡ c.read_content.new.into = cc given in
     let edited = c.in-Ok.ensures in
     let wrote = subst (λ (b : List ℕ). Changes g.V.Drives.moment (ContentsLeft g.V.Drives.may_leave) c.read_content.new.drives c.write_content.new.drives (OldOrNew c.args.n b))
-      (edited.2.is ∙ ap (λ (b : List ℕ). without_members b) (sym same)) (c.write_content.ensures.images tells ((c.read_content.ensures.kept_always c.args.n).1 settled)) in
+    (edited.2.is ∙ ap (λ (b : List ℕ). without_members b) (sym same)) (c.write_content.ensures.images tells ((c.read_content.ensures.kept_always c.args.n).1 settled)) in
     lifted _ g.V.Drives.moment (ContentsLeft g.V.Drives.may_leave) _ _ (OldOrNew c.args.n (without_members body))
     (write_either g.V.Drives.moment (ContentsLeft g.V.Drives.may_leave) c.args.n old c.read_content.new.drives c.write_content.new.drives c.read_content.ensures.images (without_members body) wrote)
 
@@ -67,15 +67,15 @@ returns-in-Ok-clause-images_others g c =
 pub returns-in-Ok-clause-settles_only : goal.returns-in-Ok-clause-settles_only
 returns-in-Ok-clause-settles_only g c = λ tells k apart settled.
     elim apart [
-      inl ne ↦ (c.read_content.ensures.kept tells k).0 ((c.write_content.ensures.kept tells k ne).0 settled)
-    | inr never ↦ absurd (unrefused c.write_content.result c.write_content.ensures.only never)
+      | inl ne ↦ (c.read_content.ensures.kept tells k).0 ((c.write_content.ensures.kept tells k ne).0 settled)
+      | inr never ↦ absurd (unrefused c.write_content.result c.write_content.ensures.only never)
     ]
 
 pub returns-in-Ok-clause-kept_always : goal.returns-in-Ok-clause-kept_always
 returns-in-Ok-clause-kept_always g c = λ _ k apart settled.
     elim apart [
-      inl ne ↦ c.write_content.ensures.kept_always k ne ((c.read_content.ensures.kept_always k).1 settled)
-    | inr never ↦ absurd (unrefused c.write_content.result c.write_content.ensures.only never)
+      | inl ne ↦ c.write_content.ensures.kept_always k ne ((c.read_content.ensures.kept_always k).1 settled)
+      | inr never ↦ absurd (unrefused c.write_content.result c.write_content.ensures.only never)
     ]
 
 pub returns-in-Ok-clause-images_done : goal.returns-in-Ok-clause-images_done

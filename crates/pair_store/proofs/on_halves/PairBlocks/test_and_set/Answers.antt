@@ -1,4 +1,4 @@
-use Rattle.std.proofs.Common.{◌≡◌, ◌≢◌, inl, inr, ℕ, Some, None, List, Err, sym, ◌∙◌, ap, subst}
+use Rattle.std.proofs.Common.{◌≡◌, ◌≢◌, inl, inr, ℕ, Some, List, Err, sym, ◌∙◌, ap, subst}
 use Rattle.std.proofs.lemmas.Result.{err_from_is_err_and}
 use Rattle.drives.specs.declared.device.Half.TheVariants.{A, B}
 use Rattle.drives.specs.Changes.{Changes, halves_seen}
@@ -8,7 +8,7 @@ use Rattle.pair_store.specs.Blocks.{OldOrNew, SameOthers}
 use Rattle.pair_store.specs.Content.{ContentsLeft}
 use Rattle.pair_store.specs.Pages.{with_commit}
 use Rattle.pair_store.specs.PairLaws.{settled_now}
-use Rattle.pair_store.proofs.PageWriting.{lifted, read_either, read_others, tested_fault, write_either, write_others}
+use Rattle.pair_store.proofs.PageWriting.{fault_alone, lifted, read_either, read_others, tested_fault, write_either, write_others}
 use Rattle.pair_store.proofs.on_halves.PairBlocks.test_and_set.Goals as goal
 
 pub returns-in_err-read_content-clause-unread : goal.returns-in_err-read_content-clause-unread
@@ -69,7 +69,7 @@ returns-in_err-write_content-in-Ok-Set-clause-images g c = λ tells settled body
     let same : body ≡ c.read_content.new.into = cc given in
     let edited = rw c.in-Ok-Set.field-0-is at c.in-Ok-Set.ensures in
     let wrote = subst (λ (b : List ℕ). Changes g.V.Drives.moment (ContentsLeft g.V.Drives.may_leave) c.read_content.new.drives c.write_content.new.drives (OldOrNew c.args.n b))
-      (edited.3.is ∙ ap (λ (b : List ℕ). with_commit c.args.next b) (sym same)) (c.write_content.ensures.images tells ((c.read_content.ensures.kept_always c.args.n).1 settled)) in
+    (edited.3.is ∙ ap (λ (b : List ℕ). with_commit c.args.next b) (sym same)) (c.write_content.ensures.images tells ((c.read_content.ensures.kept_always c.args.n).1 settled)) in
     lifted _ g.V.Drives.moment (ContentsLeft g.V.Drives.may_leave) _ _ (OldOrNew c.args.n (with_commit c.args.next body))
     (write_either g.V.Drives.moment (ContentsLeft g.V.Drives.may_leave) c.args.n old c.read_content.new.drives c.write_content.new.drives c.read_content.ensures.images (with_commit c.args.next body) wrote)
 
@@ -85,7 +85,7 @@ returns-in_ok-write_content-in-Ok-Set-clause-images g c = λ tells settled body 
     let same : body ≡ c.read_content.new.into = cc given in
     let edited = rw c.in-Ok-Set.field-0-is at c.in-Ok-Set.ensures in
     let wrote = subst (λ (b : List ℕ). Changes g.V.Drives.moment (ContentsLeft g.V.Drives.may_leave) c.read_content.new.drives c.write_content.new.drives (OldOrNew c.args.n b))
-      (edited.3.is ∙ ap (λ (b : List ℕ). with_commit c.args.next b) (sym same)) (c.write_content.ensures.images tells ((c.read_content.ensures.kept_always c.args.n).1 settled)) in
+    (edited.3.is ∙ ap (λ (b : List ℕ). with_commit c.args.next b) (sym same)) (c.write_content.ensures.images tells ((c.read_content.ensures.kept_always c.args.n).1 settled)) in
     lifted _ g.V.Drives.moment (ContentsLeft g.V.Drives.may_leave) _ _ (OldOrNew c.args.n (with_commit c.args.next body))
     (write_either g.V.Drives.moment (ContentsLeft g.V.Drives.may_leave) c.args.n old c.read_content.new.drives c.write_content.new.drives c.read_content.ensures.images (with_commit c.args.next body) wrote)
 
@@ -97,15 +97,15 @@ returns-in_ok-write_content-in-Ok-Set-clause-images_others g c =
 pub returns-in_ok-write_content-in-Ok-Set-clause-settles_only : goal.returns-in_ok-write_content-in-Ok-Set-clause-settles_only
 returns-in_ok-write_content-in-Ok-Set-clause-settles_only g c = λ tells k apart settled.
     elim apart [
-      inl ne ↦ (c.read_content.ensures.kept tells k).0 ((c.write_content.ensures.kept tells k ne).0 settled)
-    | inr never ↦ absurd never
+      | inl ne ↦ (c.read_content.ensures.kept tells k).0 ((c.write_content.ensures.kept tells k ne).0 settled)
+      | inr never ↦ absurd never
     ]
 
 pub returns-in_ok-write_content-in-Ok-Set-clause-kept_always : goal.returns-in_ok-write_content-in-Ok-Set-clause-kept_always
 returns-in_ok-write_content-in-Ok-Set-clause-kept_always g c = λ _ k apart settled.
     elim apart [
-      inl ne ↦ c.write_content.ensures.kept_always k ne ((c.read_content.ensures.kept_always k).1 settled)
-    | inr never ↦ absurd never
+      | inl ne ↦ c.write_content.ensures.kept_always k ne ((c.read_content.ensures.kept_always k).1 settled)
+      | inr never ↦ absurd never
     ]
 
 pub returns-in_ok-write_content-in-Ok-Set-clause-images_done : goal.returns-in_ok-write_content-in-Ok-Set-clause-images_done
@@ -114,3 +114,12 @@ returns-in_ok-write_content-in-Ok-Set-clause-images_done g c = λ tells settled 
     let same : body ≡ c.read_content.new.into = cc given in
     let edited = rw c.in-Ok-Set.field-0-is at c.in-Ok-Set.ensures in
     c.in_ok-write_content-in-Ok-Set.ensures.images_done tells f image ∙ ap (λ (b : List ℕ). Some b) (edited.3.is ∙ ap (λ (b : List ℕ). with_commit c.args.next b) (sym same))
+
+pub returns-in_err-write_content-in-Ok-Set-clause-settles_only : goal.returns-in_err-write_content-in-Ok-Set-clause-settles_only
+returns-in_err-write_content-in-Ok-Set-clause-settles_only g c = λ tells k which settled.
+    let p = err_from_is_err_and c.from_residual-in_err-write_content-in-Ok-Set.result c.from_residual-in_err-write_content-in-Ok-Set.ensures.1 in
+    let ne : k ≢ c.args.n = elim which [
+      | inl ne ↦ ne
+      | inr alone ↦ absurd (fault_alone _ c.in_err-write_content-in-Ok-Set.ensures.only (rw (p.1, p.2) at alone))
+    ] in
+    (c.read_content.ensures.kept tells k).0 ((c.write_content.ensures.kept tells k ne).0 settled)

@@ -1,4 +1,3 @@
-use Rattle.std.proofs.Common.{◌≡◌}
 use Rattle.pair_store.specs.Blocks.{OldOrNew}
 use Rattle.pair_store.specs.Content.{ContentsLeft}
 use Rattle.pair_store.proofs.PageWriting.{lifted}
