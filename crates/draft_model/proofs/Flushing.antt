@@ -139,7 +139,7 @@ same_below old new root kept (s ∷ l) q b at =
 -- ---- the walk
 
 module _ (d : View) (placed : List Placed) (old new : Store) (root top : ℕ) (a : Tree) (steps : List Step) (was : StandsFor old root a steps d)
-    (whole : AreWhole d) (plan : IsPlaced d placed) (flushed : Flushed d placed root old new) where
+    (plan : IsPlaced d placed) (flushed : Flushed d placed root old new) (whole : AreWhole new) where
   abbrev pub t : Tree
   t = tree_after a steps
 
@@ -213,6 +213,9 @@ module _ (d : View) (placed : List Placed) (old new : Store) (root top : ℕ) (a
       let F : List ℕ → Type 0 = λ y. are_slots y ≡ true in
       slot_small p s [] (subst F (sym (at_root (p ++ s ∷ []))) (shape.slots (p ++ s ∷ []) c.0 c.1.is))
 
+  sixteen : (p : List ℕ) (b : ℕ) (c : Copied) → block_of placed p ≡ Some b → d p ≡ Some c → length c.page.refs ≡ 16
+  sixteen p b c at here = sym (slots_length d placed p 0 c.page.refs) ∙ whole b (flushed_page d placed p c.page) (flushed.page p b c at here)
+
   -- from a written page down
   walk : (l p x : List ℕ) (b : ℕ) → p ++ l ≡ x → block_of placed p ≡ Some b → Known x (block_at new b l)
   walk [] p x b is at = inl (b, ap (block_of placed) (sym is ∙ at_root p) ∙ at, refl)
@@ -233,7 +236,7 @@ module _ (d : View) (placed : List Placed) (old new : Store) (root top : ℕ) (a
       by rest c here live_here (Some y) e =
           let K : Option ℕ → Type 0 = λ o. Known x (below new l o) in
           let L : ℕ → Type 0 = λ n. s < n in
-          subst K (sym (slot_placed d placed p s c.page y (subst L (sym (whole p c here)) (slots_small p s y e)) e))
+          subst K (sym (slot_placed d placed p s c.page y (subst L (sym (sixteen p b c at here)) (slots_small p s y e)) e))
           (rest y e)
 
   module _ (at_top : block_of placed [] ≡ Some top) where
@@ -276,5 +279,5 @@ module _ (d : View) (placed : List Placed) (old new : Store) (root top : ℕ) (a
         by (inr (inr (found, same_there))) = found
 
 pub flushes : FlushLaw
-flushes d placed old new root top a steps was whole plan flushed at_top =
-    (holds_after d placed old new root top a steps was whole plan flushed at_top, shares_after d placed old new root top a steps was whole plan flushed at_top)
+flushes d placed old new root top a steps was plan flushed whole at_top =
+    (holds_after d placed old new root top a steps was plan flushed whole at_top, shares_after d placed old new root top a steps was plan flushed whole at_top)

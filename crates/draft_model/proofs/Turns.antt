@@ -1,6 +1,7 @@
 -- Writing the pages one after the other writes each to its block, and changes no other block.
-use Rattle.std.proofs.Common.{◌≡◌, ℕ, Bool, true, false, not, ◌||◌, cond, nat_eq, List, [], ◌∷◌, ◌++◌, ◌⊎◌, inl, inr, refl, sym, ap, subst, ◌∙◌, Option, Some, eqb-true, eq-eqb}
+use Rattle.std.proofs.Common.{◌≡◌, ℕ, zero, suc, Bool, true, false, not, ◌||◌, cond, nat_eq, List, [], ◌∷◌, ◌++◌, take, ◌⊎◌, inl, inr, refl, sym, ap, subst, ◌∙◌, Option, Some, eqb-true, eq-eqb}
 use Rattle.std.specs.Option.{option_map_or}
+use Rattle.std.specs.List.{slice_get}
 use Rattle.std.specs.Cmp.{first_so, second_so}
 use Rattle.tree_model.proofs.Paths.{told, never, same_is, false_if, not_true, or_left, or_right}
 use Rattle.page_codec.specs.Values.{PageValue}
@@ -42,6 +43,16 @@ block_among (x ∷ turns) p b h = by (same p x.path) h (block_among turns p b)
     by : (here : Bool) → cond here (Some x.block) (block_of turns p) ≡ Some b → (block_of turns p ≡ Some b → is_block_of turns b ≡ true) → (nat_eq b x.block || is_block_of turns b) ≡ true
     by true e rest = or_left (nat_eq b x.block) (is_block_of turns b) (eq-eqb b x.block (sym (number_is x.block b e)))
     by false e rest = or_right (nat_eq b x.block) (is_block_of turns b) (rest e)
+
+-- one place more
+pub after_next : (d : View) (placed turns : List Placed) (store : Store) (k : ℕ) (x : Placed) → slice_get turns k ≡ Some x
+    → store_after d placed (take (suc k) turns) store ≡ with_block (store_after d placed (take k turns) store) x.block (page_for d placed x.path (d x.path))
+after_next d placed [] store k x h = absurd (cc)
+after_next d placed (y ∷ turns) store zero x h = ap (λ (o : Option Placed). by_place o) h
+  where
+    by_place : Option Placed → Store
+    by_place o = option_map_or (λ (z : Placed). with_block store z.block (page_for d placed z.path (d z.path))) o store
+after_next d placed (y ∷ turns) store (suc k) x h = after_next d placed turns (with_block store y.block (page_for d placed y.path (d y.path))) k x h
 
 -- a path's block has its page after all were written
 after_each : (d : View) (placed turns : List Placed) (store : Store) (p : List ℕ) (b : ℕ) → are_apart turns ≡ true → block_of turns p ≡ Some b

@@ -69,9 +69,9 @@ abbrev pub flushed_page : View → List Placed → List ℕ → PageValue → Pa
 flushed_page d placed p page =
     record { level = page.level; modified = page.modified; refs = flushed_slots d placed p 0 page.refs; bytes = page.bytes }
 
--- each copied page has sixteen slots
-abbrev pub AreWhole : View → Type 0
-AreWhole d = (p : List ℕ) (c : Copied) → d p ≡ Some c → length c.page.refs ≡ 16
+-- every page of the store has sixteen slots
+abbrev pub AreWhole : Store → Type 0
+AreWhole store = (b : ℕ) (page : PageValue) → store b ≡ Some page → length page.refs ≡ 16
 
 -- ---- the blocks
 

@@ -45,7 +45,7 @@ FreshLaw = (d : View) (paths : List (List ℕ)) → AreFresh d paths → TellsFr
 abbrev pub FlushLaw : Type 0
 FlushLaw =
     (d : View) (placed : List Placed) (old new : Store) (root top : ℕ) (a : Tree) (steps : List Step)
-    → StandsFor old root a steps d → AreWhole d → IsPlaced d placed → Flushed d placed root old new → block_of placed [] ≡ Some top
+    → StandsFor old root a steps d → IsPlaced d placed → Flushed d placed root old new → AreWhole new → block_of placed [] ≡ Some top
     → Holds new top (tree_after a steps) × SharesRest placed old root new top (tree_after a steps)
 
 -- .. which they are after one block was written after the other, each once, where none of them is a block of the base
