@@ -82,7 +82,7 @@ fresh_written : (fresh : List (List ℕ)) (q : List ℕ) → is_one_of fresh q �
 fresh_written [] q h = never h refl
 fresh_written (p ∷ fresh) q h = h
 
-written_told : (fresh : List (List ℕ)) (q : List ℕ) → is_one_of (written_paths fresh) q ≡ true → (is_one_of fresh q ≡ true) ⊎ (q ≡ [])
+pub written_told : (fresh : List (List ℕ)) (q : List ℕ) → is_one_of (written_paths fresh) q ≡ true → (is_one_of fresh q ≡ true) ⊎ (q ≡ [])
 written_told [] q h = inr (same_is q [] (by (same q []) h))
   where
     by : (b : Bool) → (b || false) ≡ true → b ≡ true
@@ -98,7 +98,7 @@ none_of : {A : Type 0} (o : Option A) → is_some o ≡ false → o ≡ None
 none_of None h = refl
 none_of (Some x) h = never refl h
 
-copied_at : (d : View) (q : List ℕ) → live (copies d) q ≡ true → (c : Copied) × (d q ≡ Some c) × LiveAt (copies d) q (copy_of c)
+pub copied_at : (d : View) (q : List ℕ) → live (copies d) q ≡ true → (c : Copied) × (d q ≡ Some c) × LiveAt (copies d) q (copy_of c)
 copied_at d q here = by (d q) refl here
   where
     by : (o : Option Copied) → d q ≡ o → option_map_or (λ (c : PageCopy). c.live) (option_map copy_of o) false ≡ true

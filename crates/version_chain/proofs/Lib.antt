@@ -1,1 +1,6 @@
 pub mod Linked
+pub mod Places
+pub mod Slots
+pub mod Given
+pub mod Written
+pub mod Writing

@@ -2,7 +2,12 @@
 #![tactic(auto)]
 
 mod chain;
+mod flush;
 mod head;
+mod pages;
+mod place;
+mod planning;
 
 pub use chain::Chain;
+pub use flush::Flush;
 pub use head::Head;
