@@ -257,7 +257,7 @@ module _ (d : View) (placed : List Placed) (old new : Store) (root top : ℕ) (a
               flushed_page d placed p copy.0.page,
               ap new (sym is) ∙ flushed.page p x copy.0 mine copy.1,
               shape.data_is p (copy_of copy.0) copy.2,
-              shape.level_is p (copy_of copy.0) copy.2,
+              refl,
             )
         page_at p b at (inr (inl (none, gone))) = absurd (true≢false (ap is_some (sym at ∙ none)))
         page_at p b at (inr (inr (found, same_there))) =

@@ -64,10 +64,10 @@ abbrev pub flushed_slots : View → List Placed → List ℕ → ℕ → List Re
 flushed_slots d placed p s [] = []
 flushed_slots d placed p s (r ∷ refs) = flushed_slot (d (p ++ s ∷ [])) (block_of placed (p ++ s ∷ [])) r ∷ flushed_slots d placed p (s + 1) refs
 
--- the page that is written for a copied page at p: level, mask and data as copied
+-- the page that is written for a copied page at p: the level of the path, the mask and the data as copied
 abbrev pub flushed_page : View → List Placed → List ℕ → PageValue → PageValue
 flushed_page d placed p page =
-    record { level = page.level; modified = page.modified; refs = flushed_slots d placed p 0 page.refs; bytes = page.bytes }
+    record { level = length p; modified = page.modified; refs = flushed_slots d placed p 0 page.refs; bytes = page.bytes }
 
 -- every page of the store has sixteen slots
 abbrev pub AreWhole : Store → Type 0

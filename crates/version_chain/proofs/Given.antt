@@ -1,5 +1,5 @@
 -- The page that is written for a live path.
-use Rattle.std.proofs.Common.{◌≡◌, ℕ, Bool, true, false, List, ap, subst, ◌∙◌, Option, Some, option_map, MatchOption}
+use Rattle.std.proofs.Common.{◌≡◌, length, ℕ, Bool, true, false, List, ap, subst, ◌∙◌, Option, Some, option_map, MatchOption}
 use Rattle.page_codec.specs.Values.{ReferenceValue, PageValue}
 use Rattle.draft_model.specs.Views.{Copied, View, copy_of, copies, live}
 use Rattle.draft_model.specs.Flush.{Placed, IsOfUpdate, flushed_slots, flushed_page}
@@ -30,12 +30,13 @@ page_made d placed q found before after update here given refs refs_are =
     let copy = copied_at d q here in
     let c = copy.0 in
     let is : after ≡ c.page = (given_is d q found before after c copy.1 copy.2.live given).1 in
+    let level : after.level ≡ length q = ap (λ (page : PageValue). page.level) is ∙ update.stands.stands.shape.level_is q (copy_of c) copy.2 in
     record {
       copy = c;
       here = copy.1;
       live = copy.2.live;
       page_is =
-          (λ i. record { level = after.level; modified = after.modified; refs = refs_are i; bytes = after.bytes })
+          (λ i. record { level = level i; modified = after.modified; refs = refs_are i; bytes = after.bytes })
           ∙ ap (λ (page : PageValue). flushed_page d placed q page) is;
-      level = ap (λ (page : PageValue). page.level) is ∙ update.stands.stands.shape.level_is q (copy_of c) copy.2;
+      level = level;
     }

@@ -4,3 +4,4 @@ pub mod Slots
 pub mod Given
 pub mod Written
 pub mod Writing
+pub mod Whole

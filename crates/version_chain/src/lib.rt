@@ -4,6 +4,7 @@
 mod chain;
 mod flush;
 mod head;
+mod laws;
 mod pages;
 mod place;
 mod planning;
@@ -11,3 +12,4 @@ mod planning;
 pub use chain::Chain;
 pub use flush::Flush;
 pub use head::Head;
+pub use laws::{next_law, whole_law};
