@@ -64,10 +64,11 @@ impl BlockMap {
         self.states[n.get() as usize]
     }
 
-    /// How many blocks are free.
+    /// How many blocks are free. A map has at most 65536 blocks.
     pub fn free(&self) -> u32
         ensures value { result ≡ free_count self.now }
         ensures bound { result < length self.now }
+        ensures most { length self.now ≤ 65536 }
     {
         self.free
     }

@@ -6,3 +6,6 @@ pub mod Shapes
 pub mod Runs
 pub mod Feeding
 pub mod Telling
+pub mod Flushing
+pub mod Turns
+pub mod Few

@@ -35,7 +35,7 @@ use Rattle.draft_model.proofs.Feeding.{holds_tree}
 
 -- ---- the slots of a page
 
-any_below : (f : ℕ → Bool) (n k : ℕ) → k < n → f k ≡ true → list_any f (slots_below n) ≡ true
+pub any_below : (f : ℕ → Bool) (n k : ℕ) → k < n → f k ≡ true → list_any f (slots_below n) ≡ true
 unfolding slots_below
 any_below f zero k h e = absurd (omega arith)
 any_below f (suc n) k h e = list_any-append f (slots_below n) (n ∷ []) ∙ by (told (nat_eq k n)) (λ g. any_below f n k g e)
@@ -44,7 +44,7 @@ any_below f (suc n) k h e = list_any-append f (slots_below n) (n ∷ []) ∙ by 
     by (inl g) rest = or_right (list_any f (slots_below n)) (f n || false) (or_left (f n) false (ap f (sym (eqb-true k n g)) ∙ e))
     by (inr g) rest = or_left (list_any f (slots_below n)) (f n || false) (rest (omega (arith, eqb-false k n g)))
 
-some_below : (f : ℕ → Bool) (n : ℕ) → list_any f (slots_below n) ≡ true → (k : ℕ) × (k < n) × (f k ≡ true)
+pub some_below : (f : ℕ → Bool) (n : ℕ) → list_any f (slots_below n) ≡ true → (k : ℕ) × (k < n) × (f k ≡ true)
 unfolding slots_below
 some_below f zero h = never h refl
 some_below f (suc n) h = elim (or_told (list_any f (slots_below n)) (f n || false) (sym (list_any-append f (slots_below n) (n ∷ [])) ∙ h)) [
@@ -67,7 +67,7 @@ bit_zero m k h = let apart = eqb-false (bit_at m k) 1 h in by (bit_at m k) (bit_
     by (suc (suc n)) small e = absurd (omega arith)
 
 -- a mask of sixteen bits is not 0 where a bit is set
-marked_any : (m : ℕ) → m < 2 ^ 16 → is_marked m ≡ list_any (has_bit m) every_slot
+pub marked_any : (m : ℕ) → m < 2 ^ 16 → is_marked m ≡ list_any (has_bit m) every_slot
 marked_any m small = same_test _ _ there back
   where
     none : list_any (has_bit m) every_slot ≡ false → m ≡ 0

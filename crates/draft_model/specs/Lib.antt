@@ -3,4 +3,5 @@ pub mod Views
 pub mod Steps
 pub mod Stands
 pub mod Told
+pub mod Flush
 pub mod Laws

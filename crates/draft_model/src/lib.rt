@@ -3,4 +3,6 @@
 
 mod laws;
 
-pub use laws::{begin_law, feed_law, flag_law, fresh_law, mask_law, step_law};
+pub use laws::{
+    begin_law, feed_law, few_law, flag_law, flush_law, fresh_law, mask_law, step_law, turn_law,
+};

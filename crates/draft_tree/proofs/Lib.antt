@@ -1,0 +1,6 @@
+pub mod Fresh
+pub mod PageFacts
+pub mod SlotFacts
+pub mod Stepping
+pub mod Wanting
+pub mod Ways

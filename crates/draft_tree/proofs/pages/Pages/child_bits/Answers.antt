@@ -1,0 +1,20 @@
+use Rattle.std.proofs.Common.{◌+◌, ap, sym, ◌∙◌, add-one, arith}
+use Rattle.draft_model.specs.Views.{copies}
+use Rattle.draft_tree.specs.Pages.{shown}
+use Rattle.draft_tree.proofs.Stepping.{bits_below, bits_none, bits_more, bits_fit}
+use Rattle.draft_tree.proofs.pages.Pages.child_bits.Goals as goal
+
+pub loop-slot-init : goal.loop-slot-init
+loop-slot-init c = sym (bits_none (copies (shown c.args.self.now)) c.args.at.now)
+
+pub overflow_add-bits : goal.overflow_add-bits
+overflow_add-bits c =
+    omega (arith, bits_fit (copies (shown c.args.self.now)) c.args.at.now c.loop-slot.slot (omega arith), c.loop-slot.invariant, c.bit-bits.ensures)
+
+pub loop-slot-preserved : goal.loop-slot-preserved
+loop-slot-preserved c =
+    let h = copies (shown c.args.self.now) in
+    let p = c.args.at.now in
+    (λ i. c.loop-slot.invariant i + c.bit-bits.ensures i)
+    ∙ sym (bits_more h p c.loop-slot.slot)
+    ∙ ap (bits_below h p) (sym (add-one c.loop-slot.slot))

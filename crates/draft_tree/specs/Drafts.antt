@@ -1,0 +1,29 @@
+-- What a draft gives out of a page, and what a walk puts into one.
+use Rattle.std.specs.Prelude.{◌≡◌, ℕ, true, if◌then◌else◌, List, Option, Some, None, option_map}
+use Rattle.page_codec.specs.Values.{PageValue}
+use Rattle.draft_model.specs.Places.{same}
+use Rattle.draft_model.specs.Views.{Copied, View, PageCopy}
+
+-- the page that is live at a path, or none
+abbrev pub live_page : Option PageCopy → Option PageValue
+live_page None = None
+live_page (Some c) = if c.live then Some c.page else None
+
+-- the page is live at the path, and the merged page is of its level
+abbrev pub CanMerge : View → List ℕ → PageValue → Type 0
+CanMerge d q merged = (c : Copied) × (d q ≡ Some c) × (c.live ≡ true) × (c.page.level ≡ merged.level)
+
+-- a copied page that took over the slots and the data of a merged one; its level, its mask and its marks stay
+abbrev pub merged_page : PageValue → Copied → Copied
+merged_page merged c =
+    record {
+      live = c.live;
+      read = c.read;
+      written = c.written;
+      searched = c.searched;
+      page = record { level = c.page.level; modified = c.page.modified; refs = merged.refs; bytes = merged.bytes };
+    }
+
+-- what a draft shows after a page was merged at a path
+abbrev pub merged_at : View → List ℕ → PageValue → View
+merged_at d q merged p = if same p q then option_map (merged_page merged) (d p) else d p

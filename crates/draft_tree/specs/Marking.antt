@@ -1,0 +1,61 @@
+-- What each mark does to one copied page.
+use Rattle.std.specs.Prelude.{ℕ, ◌^◌, Bool, false, not, ◌&&◌, ◌||◌, if◌then◌else◌, List, slice_set}
+use Rattle.std.specs.List.{list_any}
+use Rattle.std.specs.Int.RustNames.{bit_or}
+use Rattle.tree_model.specs.Trees.{every_slot}
+use Rattle.page_codec.specs.Blank.{empty_reference}
+use Rattle.draft_model.specs.Places.{has_bit}
+use Rattle.draft_model.specs.Views.{Copied}
+
+-- these slots were read, if the page is there
+abbrev pub searched_more : ℕ → Copied → Copied
+searched_more mask c = record { live = c.live; read = c.read; written = c.written; searched = if c.live then bit_or c.searched mask else c.searched; page = c.page }
+
+-- every slot was read, if the page is there
+abbrev pub searched_all : Copied → Copied
+searched_all c = record { live = c.live; read = c.read; written = c.written; searched = if c.live then 65535 else c.searched; page = c.page }
+
+-- the data was read, if the page is there and its data was not written before
+abbrev pub data_read : Copied → Copied
+data_read c = record { live = c.live; read = c.read || (c.live && not c.written); written = c.written; searched = c.searched; page = c.page }
+
+-- the data was written, if the page is there
+abbrev pub data_written : List ℕ → Copied → Copied
+data_written bytes c =
+    record {
+      live = c.live;
+      read = c.read;
+      written = c.written || c.live;
+      searched = c.searched;
+      page = record { level = c.page.level; modified = c.page.modified; refs = c.page.refs; bytes = if c.live then bytes else c.page.bytes };
+    }
+
+-- a page was made in the slot
+abbrev pub child_made : ℕ → Copied → Copied
+child_made s c =
+    record {
+      live = c.live;
+      read = c.read;
+      written = c.written;
+      searched = c.searched;
+      page = record { level = c.page.level; modified = bit_or c.page.modified (2 ^ s); refs = c.page.refs; bytes = c.page.bytes };
+    }
+
+-- the page in the slot was dropped
+abbrev pub child_dropped : ℕ → Copied → Copied
+child_dropped s c =
+    record {
+      live = c.live;
+      read = c.read;
+      written = c.written;
+      searched = c.searched;
+      page = record { level = c.page.level; modified = bit_or c.page.modified (2 ^ s); refs = slice_set c.page.refs s empty_reference; bytes = c.page.bytes };
+    }
+
+-- the page is no longer there; its marks stay
+abbrev pub taken_away : Copied → Copied
+taken_away c = record { live = false; read = c.read; written = c.written; searched = c.searched; page = c.page }
+
+-- the data or some slot was written
+abbrev pub is_written : Copied → Bool
+is_written c = c.written || list_any (has_bit c.page.modified) every_slot

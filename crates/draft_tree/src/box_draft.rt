@@ -1,0 +1,158 @@
+ghost use Rattle.std.specs.Prelude.{◌≡◌, ◌+◌, ◌*◌, ◌<◌, ◌≤◌, length, IfOk};
+ghost use Rattle.draft_model.specs.Views.{end_of};
+ghost use Rattle.draft_tree.specs.Pages.{shown, fresh_paths};
+
+use crate::copied_page::CopiedPage;
+use crate::draft::Draft;
+use crate::pages::Pages;
+use crate::slot_marks::SlotMarks;
+use afs_base::{BlockNo, Path};
+use page_codec::{Page, VersionPage};
+use ref_flags::Flags;
+use std::alloc::Global;
+use tree_model::{Memory, Reply, Step};
+
+/// The last page that a step looks into on its way: a make and a drop do not look into their own page.
+fn end_of(step: &Step) -> Path
+    ensures { result ≡ end_of step.now }
+{
+    match step {
+        Step::ReadAt { at } | Step::ListAt { at } | Step::WriteAt { at, .. } => *at,
+        Step::MakeAt { at } | Step::DropAt { at } => at.above(),
+    }
+}
+
+/// A draft that keeps its pages in memory, one by one.
+#[derive(Drop)]
+pub struct BoxDraft {
+    root: BlockNo,
+    object: u32,
+    serial: u64,
+    count: u32,
+    // How many pages were fed since the draft began or since its last step.
+    fed: u32,
+    pages: Pages,
+    ghost named: { 0 < root },
+    ghost some: { 0 < object },
+    ghost most: { count ≤ 128 },
+    ghost few: { fed ≤ 7 },
+    ghost room: { length pages ≤ 1 + 8 * count + fed },
+}
+
+impl BoxDraft {
+    ghost use Rattle.draft_model.specs.Steps.{begun};
+    ghost use Rattle.draft_model.specs.Stands.{Begins};
+
+    /// A draft on the version whose version page is given and lies in block `at`, which is not 0. No step is done yet.
+    pub fn begin(alloc: Global, at: BlockNo, version: &VersionPage) -> Result<BoxDraft, Memory>
+        requires { 0 < at }
+        ensures view { IfOk result (λ d. ⟦<BoxDraft as Draft>⟧.view d ≡ begun version.now.page) }
+        ensures begins { IfOk result (λ d. Begins (⟦<BoxDraft as Draft>⟧.view d) at version.now.page) }
+        ensures root { IfOk result (λ d. ⟦<BoxDraft as Draft>⟧.root_of d ≡ at) }
+        ensures object { IfOk result (λ d. ⟦<BoxDraft as Draft>⟧.object_of d ≡ version.now.object) }
+        ensures serial { IfOk result (λ d. ⟦<BoxDraft as Draft>⟧.serial_of d ≡ version.now.serial) }
+        ensures count { IfOk result (λ d. (⟦<BoxDraft as Draft>⟧.count_of d ≡ 0) × (⟦<BoxDraft as Draft>⟧.fed_of d ≡ 0)) }
+    {
+        let mut pages = Pages::new(alloc);
+        pages.put(&Path::root(), CopiedPage::fed(&version.page))?;
+        Ok(BoxDraft {
+            root: at,
+            object: version.object,
+            serial: version.serial,
+            count: 0,
+            fed: 0,
+            pages,
+        })
+    }
+}
+
+impl Draft for BoxDraft {
+    ghost view = { λ d. shown d.pages };
+
+    ghost root_of = { λ d. d.root };
+
+    ghost object_of = { λ d. d.object };
+
+    ghost serial_of = { λ d. d.serial };
+
+    ghost count_of = { λ d. d.count };
+
+    ghost fed_of = { λ d. d.fed };
+
+    ghost fresh_of = { λ d. fresh_paths d.pages };
+
+    fn root(&self) -> BlockNo {
+        self.root
+    }
+
+    fn object(&self) -> u32 {
+        self.object
+    }
+
+    fn serial(&self) -> u64 {
+        self.serial
+    }
+
+    fn count(&self) -> u32 {
+        self.count
+    }
+
+    fn has_writes(&self) -> bool {
+        self.pages.has_writes()
+    }
+
+    fn fresh_count(&self) -> u32 {
+        self.pages.fresh_count() as u32
+    }
+
+    fn fresh(&self, k: u32) -> Path {
+        match self.pages.fresh(k as usize) {
+            Some(path) => path,
+            None => unreachable!(),
+        }
+    }
+
+    fn flags(&self, at: &Path) -> Flags {
+        self.pages.flags(at)
+    }
+
+    fn slots(&self, at: &Path) -> SlotMarks {
+        self.pages.slots(at)
+    }
+
+    fn page(&self, at: &Path, into: &mut Page) -> bool {
+        match self.pages.live_page(at) {
+            Some(page) => {
+                *into = page;
+                true
+            }
+            None => false,
+        }
+    }
+
+    fn need(&self, step: &Step) -> Option<(Path, BlockNo)> {
+        self.pages.need(&end_of(step))
+    }
+
+    fn feed(&mut self, at: &Path, page: &Page) -> Result<(), Memory> {
+        self.pages.put(at, CopiedPage::fed(page))?;
+        self.fed += 1;
+        Ok(())
+    }
+
+    fn step(&mut self, step: &Step) -> Result<Reply, Memory> {
+        let reply = self.pages.step(step)?;
+        self.count += 1;
+        self.fed = 0;
+        Ok(reply)
+    }
+
+    fn take_merged(&mut self, at: &Path, merged: &Page) {
+        self.pages.merge(at, merged);
+    }
+
+    fn rebase(&mut self, root: BlockNo, serial: u64) {
+        self.root = root;
+        self.serial = serial;
+    }
+}

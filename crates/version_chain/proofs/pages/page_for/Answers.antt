@@ -1,0 +1,12 @@
+use Rattle.std.proofs.Common.{sym, subst}
+use Rattle.page_codec.specs.Values.{PageValue}
+use Rattle.version_chain.proofs.Given.{IsGiven, page_made}
+use Rattle.version_chain.proofs.pages.page_for.Goals as goal
+
+pub returns : goal.returns
+returns g c =
+    let inside : PageValue = record { level = c.page.inside.level; modified = c.page.inside.modified; refs = c.page.inside.refs; bytes = c.page.inside.bytes } in
+    let F : PageValue → Type 0 = λ page. IsGiven (g.D.Draft.view c.args.draft.now) c.args.at.now c.page-is_live.result c.empty-page.result page in
+    page_made (g.D.Draft.view c.args.draft.now) c.args.places.now c.args.at.now c.page-is_live.result c.empty-page.result
+    (record { level = c.page.inside.level; modified = c.page.inside.modified; refs = c.page.inside.refs; bytes = c.page.inside.bytes })
+    c.requires.update c.requires.live (subst F (sym c.page.view_is) c.page-is_live.ensures) c.slots_of-page-inside.result c.slots_of-page-inside.ensures.value

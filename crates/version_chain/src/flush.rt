@@ -1,0 +1,147 @@
+ghost use Rattle.std.specs.Prelude.{◌≡◌, ℕ, ◌+◌, ◌<◌, ◌≤◌, ◌^◌, [], true, length, slice_get, MatchOption, OnSome, Some};
+ghost use Rattle.block_map.specs.States.{held_count};
+ghost use Rattle.draft_model.specs.Views.{copies, live};
+ghost use Rattle.draft_model.specs.Flush.{IsOfUpdate, IsPlaced, written_paths, are_apart, in_turn};
+ghost use Rattle.version_chain.specs.Flush.{paths_of, AreHeld, StartsAtRoot, IsVersionFor, IsWritten, GivesNext, IsDone};
+
+use crate::pages::page_for;
+use crate::place::Place;
+use crate::planning::{MAX_PLACES, places_of};
+use afs_base::{BlockNo, ClientNo, Path};
+use arrayvec::ArrayVec;
+use block_map::BlockMap;
+use draft_tree::Draft;
+use page_codec::{Block, Members, VersionPage, encode_page, encode_version};
+use ref_flags::Mark;
+use std::marker::Model;
+
+/// The blocks that a commit writes, given out one after the other: each fresh page of a draft, and last the version page.
+#[derive(Debug, Drop)]
+pub struct Flush {
+    places: ArrayVec<Place, MAX_PLACES>,
+    members: Members,
+    written: usize,
+}
+
+impl Model for Flush {
+    ghost use Rattle.std.specs.Prelude.{◌≤◌, length};
+    ghost use Rattle.version_chain.specs.Flush.{Plan};
+
+    ghost Value = { Plan };
+
+    ghost view = { λ f. record { placed = f.places.items; members = f.members; written = f.written } };
+
+    ghost invariant = { λ f. f.written ≤ length f.places.items };
+}
+
+/// The same members once more.
+fn copy_of(members: &Members) -> Members
+    ensures { result ≡ members.now }
+{
+    let mut copy = Members::none();
+    for member in members.as_slice() {
+        copy.push(*member);
+    }
+    copy
+}
+
+/// The version page that is written for a draft.
+fn version_for<D: Draft>(draft: &D, places: &[Place], members: &Members) -> VersionPage
+    requires ready { D.is_ready draft.now }
+    requires update { IsOfUpdate (D.view draft.now) }
+    requires serial { D.serial_of draft.now + 1 < 2 ^ 64 }
+    requires live { live (copies (D.view draft.now)) [] ≡ true }
+    ensures { IsVersionFor (D.view draft.now) (record { root = D.root_of draft.now; object = D.object_of draft.now; serial = D.serial_of draft.now }) places.now members.now result }
+{
+    let root = Path::root();
+    VersionPage {
+        root: draft.flags(&root).see(Mark::Copy),
+        page: page_for(draft, places, &root),
+        object: draft.object(),
+        serial: draft.serial() + 1,
+        commit: None,
+        base: Some(draft.root()),
+        members: copy_of(members),
+    }
+}
+
+impl Flush {
+    /// Plans the blocks of a commit: the k-th fresh path goes to the block at place `from + k` of those that the client holds. Where nothing
+    /// was written `/` alone is written, as a version with members needs it. Takes no memory.
+    pub fn plan<D: Draft>(
+        draft: &D,
+        map: &BlockMap,
+        client: ClientNo,
+        from: u32,
+        members: Members,
+    ) -> Flush
+        requires ready { D.is_ready draft.now }
+        requires update { IsOfUpdate (D.view draft.now) }
+        requires room { from + length (written_paths (D.fresh_of draft.now)) ≤ held_count client map.now }
+        ensures paths { paths_of result.placed ≡ written_paths (D.fresh_of draft.now) }
+        ensures placed { IsPlaced (D.view draft.now) result.placed }
+        ensures blocks { AreHeld map.now client from result.placed }
+        ensures apart { are_apart result.placed ≡ true }
+        ensures top { StartsAtRoot result.placed }
+        ensures members { result.members ≡ members }
+        ensures start { result.written ≡ 0 }
+    {
+        let _fresh = draft.fresh_count();
+        Flush {
+            places: places_of(draft, map, client, from),
+            members,
+            written: 0,
+        }
+    }
+
+    /// The place whose turn it is: the places in their order, but the first one, that of `/`, last. None when all had their turn.
+    fn turn(&self) -> Option<Place>
+        ensures place { MatchOption result (self.now.written ≡ length self.now.placed)
+            (λ place. slice_get (in_turn self.now.placed) self.now.written ≡ Some place) }
+        ensures room { OnSome result ((self.now.written < length self.now.placed) × (self.now.written < 897)) }
+    {
+        let places = self.places.as_slice();
+        if self.written + 1 < places.len() {
+            return Some(places[self.written + 1]);
+        }
+        if self.written < places.len() {
+            return Some(places[0]);
+        }
+        None
+    }
+
+    /// The next block that is to be written, with its bytes in `into`; the version page comes last. None exactly when it was given out, and
+    /// then nothing changes.
+    ///
+    /// The draft is that of `plan`, unchanged since.
+    pub fn next<D: Draft>(&mut self, draft: &D, into: &mut Block) -> Option<BlockNo>
+        requires ready { D.is_ready draft.now }
+        requires update { IsOfUpdate (D.view draft.now) }
+        requires serial { D.serial_of draft.now + 1 < 2 ^ 64 }
+        requires placed { IsPlaced (D.view draft.now) self.old.placed }
+        ensures { MatchOption result
+            (IsDone self.old self.new into.old into.new)
+            (λ block. GivesNext (D.view draft.now) (record { root = D.root_of draft.now; object = D.object_of draft.now; serial = D.serial_of draft.now }) self.old self.new block into.new) }
+    {
+        let place = self.turn()?;
+        self.write(draft, &place.path, into);
+        self.written += 1;
+        Some(place.block)
+    }
+
+    /// Writes the page of a live path into a block: of `/` the version page.
+    fn write<D: Draft>(&self, draft: &D, path: &Path, into: &mut Block)
+        requires ready { D.is_ready draft.now }
+        requires update { IsOfUpdate (D.view draft.now) }
+        requires serial { D.serial_of draft.now + 1 < 2 ^ 64 }
+        requires live { live (copies (D.view draft.now)) path.now ≡ true }
+        ensures { IsWritten (D.view draft.now) (record { root = D.root_of draft.now; object = D.object_of draft.now; serial = D.serial_of draft.now }) self.now path.now into.new }
+    {
+        let places = self.places.as_slice();
+        if path.is_empty() {
+            encode_version(&version_for(draft, places, &self.members), into);
+        } else {
+            encode_page(&page_for(draft, places, path), into);
+        }
+    }
+}
