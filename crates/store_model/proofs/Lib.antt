@@ -1,3 +1,4 @@
+pub mod PlaceLists
 pub mod Steps
 pub mod Locality
 pub mod Giving
