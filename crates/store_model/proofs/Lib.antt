@@ -1,6 +1,9 @@
 pub mod PlaceLists
 pub mod Steps
 pub mod Locality
+pub mod Rewriting
+pub mod Chaining
+pub mod Filing
 pub mod Giving
 pub mod Finding
 pub mod Reading

@@ -70,3 +70,32 @@ is_distinct (n ∷ ns) d = (none_equal n ns d.0, is_distinct ns d.1)
 -- distinct blocks below a number are no more than it
 pub distinct_within : (count : ℕ) (ns : List ℕ) → Distinct ns → ((n : ℕ) → IsIn ns n → n < count) → length ns ≤ count
 distinct_within count ns d below = length-le_from_distinct_below ns count (is_distinct ns d) below
+-- ---- lists with the same blocks
+
+abbrev pub SameBlocks : List ℕ → List ℕ → Type 0
+SameBlocks xs ys = (n : ℕ) → list_any (nat_eq n) xs ≡ list_any (nat_eq n) ys
+
+pub same_in : (xs ys : List ℕ) → SameBlocks xs ys → (n : ℕ) → IsIn xs n → IsIn ys n
+same_in xs ys s n h = sym (s n) ∙ h
+
+pub same_append : (xs ys zs : List ℕ) → SameBlocks xs ys → SameBlocks (xs ++ zs) (ys ++ zs)
+same_append xs ys zs s n =
+    list_any-append (nat_eq n) xs zs ∙ ap (λ b. b || list_any (nat_eq n) zs) (s n) ∙ sym (list_any-append (nat_eq n) ys zs)
+
+pub same_behind : (xs ys zs : List ℕ) → SameBlocks ys zs → SameBlocks (xs ++ ys) (xs ++ zs)
+same_behind xs ys zs s n =
+    list_any-append (nat_eq n) xs ys ∙ ap (λ b. list_any (nat_eq n) xs || b) (s n) ∙ sym (list_any-append (nat_eq n) xs zs)
+
+or_swap : (a b c : Bool) → (a || (b || c)) ≡ (b || (a || c))
+or_swap true true c = refl
+or_swap true false c = refl
+or_swap false b c = refl
+
+pub same_swap : (xs ys zs : List ℕ) → SameBlocks (xs ++ (ys ++ zs)) (ys ++ (xs ++ zs))
+same_swap xs ys zs n =
+    list_any-append (nat_eq n) xs (ys ++ zs) ∙ ap (λ b. list_any (nat_eq n) xs || b) (list_any-append (nat_eq n) ys zs)
+    ∙ or_swap (list_any (nat_eq n) xs) (list_any (nat_eq n) ys) (list_any (nat_eq n) zs)
+    ∙ ap (λ b. list_any (nat_eq n) ys || b) (sym (list_any-append (nat_eq n) xs zs)) ∙ sym (list_any-append (nat_eq n) ys (xs ++ zs))
+
+pub same_from : (xs ys : List ℕ) → xs ≡ ys → SameBlocks xs ys
+same_from xs ys e n = ap (list_any (nat_eq n)) e

@@ -185,7 +185,7 @@ pub record Took (block : ℕ) (held : Option (List ℕ)) (seen : List ℕ) (byte
   pub holds : held ≡ Some bytes
   pub grown : all ≡ block ∷ seen
 
-took : (block : ℕ) (held : Option (List ℕ)) (seen bytes all : List ℕ) → taken block held seen ≡ Ok (bytes, all) → Took block held seen bytes all
+pub took : (block : ℕ) (held : Option (List ℕ)) (seen bytes all : List ℕ) → taken block held seen ≡ Ok (bytes, all) → Took block held seen bytes all
 unfolding bind is_new add content_at done refuse
 took block held seen bytes all e = of (list_any (nat_eq block) seen) held refl refl e
   where

@@ -7,4 +7,5 @@ pub mod Members
 pub mod Found
 pub mod Places
 pub mod Laws
+pub mod Changes
 pub mod Examples
