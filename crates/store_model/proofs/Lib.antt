@@ -4,6 +4,9 @@ pub mod Locality
 pub mod Rewriting
 pub mod Chaining
 pub mod Filing
+pub mod Edits
+pub mod Linking
+pub mod Aside
 pub mod Giving
 pub mod Finding
 pub mod Reading
