@@ -7,6 +7,8 @@ pub mod Filing
 pub mod Edits
 pub mod Linking
 pub mod Aside
+pub mod Hits
+pub mod Stores
 pub mod Giving
 pub mod Finding
 pub mod Reading
