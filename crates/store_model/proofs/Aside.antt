@@ -1,6 +1,5 @@
 -- Members of tops, while one file that none of them is of is changed: they find the same, and that file stays as it is.
-use Rattle.std.proofs.Common.{◌≡◌, ◌≢◌, ℕ, suc, ◌-◌, Bool, true, false, List, [], ◌∷◌, ◌++◌, map, ◌⊎◌, inl, inr, Option, Some, Result, Ok, refl, sym, ap, subst, ◌∙◌, append_assoc, true≢false, slice_get}
-use Rattle.std.specs.Option.{option_and_then}
+use Rattle.std.proofs.Common.{◌≡◌, ◌≢◌, ℕ, suc, ◌-◌, false, List, [], ◌∷◌, ◌++◌, map, ◌⊎◌, inl, inr, Some, Result, Ok, refl, sym, ap, subst, ◌∙◌, append_assoc, true≢false, slice_get}
 use Rattle.page_codec.specs.Values.{MemberValue}
 use Rattle.store_model.specs.Walk.{Walk, Refused, bind, done}
 use Rattle.store_model.specs.Laid.{LaidVersion, LaidFile, last_laid}
@@ -38,10 +37,10 @@ passed_by c count k objects top member linked seen after all passes among r e =
     let f : InFile member.object linked.files r.last = in_file member.object linked.files r.last r.is in
     let object : member.object ≡ suc k = f.counts ∙ ap (λ n. suc n) e in
     elim passes [
-      inl before ↦ r.unnamed (subst (IsIn linked.named) (sym object) before)
-    | inr other ↦ elim other [
-        inl not_one ↦ not_one (subst (IsIn objects) object among)
-      | inr names ↦ clash f.file f.listed f.is names
+      | inl before ↦ r.unnamed (subst (IsIn linked.named) (sym object) before)
+      | inr other ↦ elim other [
+        | inl not_one ↦ not_one (subst (IsIn objects) object among)
+        | inr names ↦ clash f.file f.listed f.is names
       ]
     ]
   where
@@ -55,10 +54,10 @@ pub passes_on : (k : ℕ) (objects others : List ℕ) (linked after : Linked) �
     → ((n : ℕ) → IsIn linked.named n → IsIn after.named n) → slice_get after.files k ≡ slice_get linked.files k → Passes k others after
 passes_on k objects others linked after passes among names kept =
     elim passes [
-      inl before ↦ inl (names (suc k) before)
-    | inr other ↦ inr (elim other [
-        inl not_one ↦ inl (λ h. not_one (among (suc k) h))
-      | inr some ↦ inr (record { file = some.file; last = some.last; listed = kept ∙ some.listed; is = some.is; some = some.some })
+      | inl before ↦ inl (names (suc k) before)
+      | inr other ↦ inr (elim other [
+        | inl not_one ↦ inl (λ h. not_one (among (suc k) h))
+        | inr some ↦ inr (record { file = some.file; last = some.last; listed = kept ∙ some.listed; is = some.is; some = some.some })
       ])
     ]
 

@@ -1,15 +1,15 @@
 -- The versions of a chain: each names the next and the last names none. And what the chain is after its last version was written anew.
-use Rattle.std.proofs.Common.{◌≡◌, ◌≢◌, ℕ, zero, suc, ◌+◌, ◌≤◌, ◌<◌, ◌==◌, ◌||◌, true, List, [], ◌∷◌, ◌++◌, length, ◌⊎◌, inl, inr, Option, Some, None, Result, Ok, Err, refl, sym, ap, subst, ◌∙◌, append_assoc, append-nil, arith, length-append}
+use Rattle.std.proofs.Common.{◌≡◌, ◌≢◌, ℕ, zero, suc, ◌+◌, ◌≤◌, ◌==◌, ◌||◌, true, List, [], ◌∷◌, ◌++◌, length, ◌⊎◌, inl, inr, Option, Some, None, Ok, refl, sym, ap, subst, ◌∙◌, append_assoc, append-nil, arith, length-append}
 use Rattle.std.specs.Option.{is_none}
 use Rattle.page_codec.specs.Values.{VersionValue, MemberValue}
-use Rattle.store_model.specs.Walk.{Walk, Refused, and_then, bind, done, if_some}
+use Rattle.store_model.specs.Walk.{Walk, bind, done, if_some}
 use Rattle.store_model.specs.Laid.{LaidVersion}
 use Rattle.store_model.specs.Chains.{version_at, chain_from, chain_at}
 use Rattle.store_model.specs.Changes.{version_in_block, changed_at}
-use Rattle.store_model.proofs.PlaceLists.{IsIn, Apart, Distinct, in_head, in_left, in_right, in_either, in_along, none_in, distinct_append, distinct_within}
-use Rattle.store_model.proofs.Steps.{Content, blocks_of, Agree, InRange, Ran, Framed, Passed, passed, went_on, ok≢err, same_value, same_places}
+use Rattle.store_model.proofs.PlaceLists.{IsIn, Apart, Distinct, in_left, in_right, in_either, in_along, none_in, distinct_append, distinct_within}
+use Rattle.store_model.proofs.Steps.{Content, blocks_of, InRange, Ran, Passed, passed, went_on, same_value, same_places}
 use Rattle.store_model.proofs.Locality.{framed_chain}
-use Rattle.store_model.proofs.Rewriting.{Alike, same_version, page_as, version_as, VersionAgain, version_again}
+use Rattle.store_model.proofs.Rewriting.{same_version, page_as, version_as, VersionAgain, version_again}
 
 -- ---- what a chain is
 
@@ -169,8 +169,8 @@ pub record ChainEnds (c d : Content) (count object most : ℕ) (u : LaidVersion)
 beside : (new mid seen : List ℕ) (first later : List ℕ) → mid ≡ first ++ seen → Apart new mid → Apart (new ++ first) later → Apart new (first ++ later)
 beside new mid seen first later grown apart clear n h g =
     elim (in_either first later n g) [
-      inl l ↦ apart n h (in_along (first ++ seen) mid (sym grown) n (in_left first seen n l))
-    | inr r ↦ clear n (in_left new first n h) r
+      | inl l ↦ apart n h (in_along (first ++ seen) mid (sym grown) n (in_left first seen n l))
+      | inr r ↦ clear n (in_left new first n h) r
     ]
 
 at_least : (ns : List ℕ) (n : ℕ) → IsIn ns n → 1 ≤ length ns
@@ -235,8 +235,8 @@ going c d count object most u seen vs all sound enough within x =
       new = ih.new ++ va.new;
       grown = ih.grown ∙ ap (λ l. ih.new ++ l) va.grown ∙ sym (append_assoc ih.new va.new seen);
       apart = λ n h g. elim (in_either ih.new va.new n h) [
-        inl l ↦ ih.apart n l (in_along (va.new ++ seen) x.mid (sym va.grown) n (in_right va.new seen n g))
-      | inr r ↦ va.apart n r g
+        | inl l ↦ ih.apart n l (in_along (va.new ++ seen) x.mid (sym va.grown) n (in_right va.new seen n g))
+        | inr r ↦ va.apart n r g
       ];
       last = last_of c d count object x.block (Some u) seen x.mid x.next va ih.rest ih.new ih.last;
       rewritten = λ commit members tail extra rw ends later clear off.
@@ -250,7 +250,6 @@ going c d count object most u seen vs all sound enough within x =
           ∙ ap (λ l. Ok (changed_at (version_as commit members) (length ih.rest) (x.next ∷ ih.rest) ++ tail, extra ++ l)) along);
     }
 
-
 pub chain_ends : (c d : Content) (count object most : ℕ) (u : LaidVersion) (seen : List ℕ) (vs : List LaidVersion) (all : List ℕ)
     → Sound count seen → count + 1 ≤ length seen + most
     → chain_from (blocks_of c count) object most u seen ≡ Ok (vs, all) → ChainEnds c d count object most u seen vs all
@@ -259,8 +258,8 @@ chain_ends c d count object zero u seen vs all sound enough e =
     absurd (omega arith)
 chain_ends c d count object (suc most) u seen vs all sound enough e =
     elim (chain_step c count object most u seen vs all e) [
-      inl x ↦ ended c d count object most u seen vs all x
-    | inr x ↦ going c d count object most u seen vs all sound enough (chain_ends c d count object most) x
+      | inl x ↦ ended c d count object most u seen vs all x
+      | inr x ↦ going c d count object most u seen vs all sound enough (chain_ends c d count object most) x
     ]
 
 -- ---- a whole chain

@@ -1,8 +1,9 @@
 -- Lists with the item at one place changed.
-use Rattle.std.proofs.Common.{◌≡◌, ◌≢◌, ℕ, zero, suc, ◌+◌, ◌-◌, ◌<◌, List, [], ◌∷◌, ◌++◌, length, Option, Some, None, option_map, refl, sym, ap, ◌∙◌, arith, slice_get, length-append}
+use Rattle.std.proofs.Common.{◌≡◌, ◌≢◌, ℕ, zero, suc, ◌+◌, ◌-◌, ◌<◌, List, [], ◌∷◌, ◌++◌, length, Some, None, option_map, refl, sym, ap, ◌∙◌, arith, slice_get, length-append, map}
 use Rattle.store_model.specs.Laid.{LaidVersion, LaidFile, last_laid}
 use Rattle.store_model.specs.Members.{longer, with_version_at}
-use Rattle.store_model.specs.Changes.{changed_at}
+use Rattle.store_model.specs.Found.{LaidStore, version_in, file_in, state_in}
+use Rattle.store_model.specs.Changes.{changed_at, file_with, store_with}
 
 pub some_is : {X : Type 0} {x y : X} → Some x ≡ Some y → x ≡ y
 some_is h = cc
@@ -82,3 +83,18 @@ last_past versions version =
     let more : length (versions ++ version ∷ []) ≡ length versions + 1 = length-append versions (version ∷ []) in
     let one : length (versions ++ version ∷ []) - 1 ≡ length versions = omega arith in
     ap (slice_get (versions ++ version ∷ [])) one ∙ get_past versions version
+
+-- ---- what is seen of a list with one item changed
+
+pub map_changed : {X Y : Type 0} (f : X → Y) (g : X → X) (k : ℕ) (xs : List X) → ((x : X) → f (g x) ≡ f x) → map f (changed_at g k xs) ≡ map f xs
+map_changed f g k [] h = refl
+map_changed f g zero (x ∷ xs) h = ap (λ y. y ∷ map f xs) (h x)
+map_changed f g (suc k) (x ∷ xs) h = ap (λ l. f x ∷ l) (map_changed f g k xs h)
+
+-- a change that keeps what is found of each version keeps what is found of the store
+pub state_same : (change : LaidVersion → LaidVersion) (k place : ℕ) (store : LaidStore) → ((v : LaidVersion) → version_in (change v) ≡ version_in v)
+    → state_in (store_with change k place store) ≡ state_in store
+state_same change k place store same =
+    ap (λ files. record { format = store.root.format; blocks = store.root.blocks; key = store.root.key; files = files })
+    (map_changed file_in (file_with change place) k store.files
+    (λ file. ap (λ versions. record { generation = file.entry.generation; secret = file.entry.secret; versions = versions }) (map_changed version_in change place file.versions same)))

@@ -1,5 +1,5 @@
 -- The files of a table after the last version of one of them was written anew.
-use Rattle.std.proofs.Common.{◌≡◌, ◌≢◌, ℕ, zero, suc, ◌+◌, ◌-◌, List, [], ◌∷◌, ◌++◌, length, inl, inr, Option, Some, None, Result, Ok, refl, sym, ap, subst, ◌∙◌, append_assoc, arith, slice_get}
+use Rattle.std.proofs.Common.{◌≡◌, ℕ, zero, suc, ◌+◌, List, [], ◌∷◌, ◌++◌, length, inl, inr, Option, Some, None, Result, Ok, refl, sym, ap, subst, ◌∙◌, append_assoc, arith, slice_get}
 use Rattle.page_codec.specs.Values.{MemberValue}
 use Rattle.store_model.specs.Walk.{Walk, Refused, bind, done, if_some}
 use Rattle.store_model.specs.Laid.{LaidVersion, LaidFile}
@@ -148,10 +148,10 @@ first_file c d count named object file row others seen files all i v at f listed
           row.block later (λ n h g. clear n (in_right r.new ch.new n h) g) (λ n h g. off n h (inside n g)) in
           let apart_rest : Apart r.new (extra ++ (ch.new ++ later)) =
           λ n h g. elim (in_either extra (ch.new ++ later) n g) [
-            inl x ↦ off n x (in_left (r.new ++ ch.new) later n (in_left r.new ch.new n h))
-          | inr x ↦ elim (in_either ch.new later n x) [
-              inl y ↦ beside n h (in_left ch.new seen n y)
-            | inr y ↦ clear n (in_left r.new ch.new n h) y
+            | inl x ↦ off n x (in_left (r.new ++ ch.new) later n (in_left r.new ch.new n h))
+            | inr x ↦ elim (in_either ch.new later n x) [
+              | inl y ↦ beside n h (in_left ch.new seen n y)
+              | inr y ↦ clear n (in_left r.new ch.new n h) y
             ]
           ] in
           let agree : Agree c d r.new = λ n h. rw.others n (λ i. beside n h (in_left ch.new seen n (subst (IsIn ch.new) (sym i) ch.last.here))) in
@@ -176,7 +176,7 @@ first_file c d count named object file row others seen files all i v at f listed
 later_file : (c d : Content) (count named object k : ℕ) (file : LaidFile) (row : Row) (others : List Row) (seen : List ℕ) (files : List LaidFile) (all : List ℕ)
     → Filed c count object row others seen files all
     → ((mid : List ℕ) (rest : List LaidFile) → files_from (blocks_of c count) (suc object) others mid ≡ Ok (rest, all) → slice_get rest k ≡ Some file
-        → FilesAgain c d count named (suc object) k file others mid rest all)
+    → FilesAgain c d count named (suc object) k file others mid rest all)
     → slice_get files (suc k) ≡ Some file
     → FilesAgain c d count named object (suc k) file (row ∷ others) seen files all
 later_file c d count named object k file row others seen files all f again listed =

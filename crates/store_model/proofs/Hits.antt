@@ -1,20 +1,19 @@
 -- What the members of tops do to one file: nothing, or one of them is its next version. Then the walk goes alike where that version is there already.
-use Rattle.std.proofs.Common.{◌≡◌, ◌≢◌, ℕ, suc, ◌-◌, ◌==◌, ◌&&◌, Bool, true, false, nat_eq, List, [], ◌∷◌, ◌++◌, ◌⊎◌, inl, inr, Option, Some, None, Ok, refl, sym, ap, subst, ◌∙◌, append_assoc, append-nil, arith, eqb-true, eq-eqb, true≢false, slice_get}
+use Rattle.std.proofs.Common.{◌≡◌, ◌≢◌, ℕ, suc, ◌-◌, ◌&&◌, true, nat_eq, List, [], ◌∷◌, ◌++◌, inl, inr, Some, Ok, sym, ap, subst, ◌∙◌, append_assoc, append-nil, arith, eqb-true, eq-eqb, true≢false, slice_get}
 use Rattle.std.specs.Option.{is_none}
-use Rattle.std.specs.Cmp.{first_so, second_so}
+use Rattle.std.specs.Cmp.{second_so}
 use Rattle.page_codec.specs.Values.{MemberValue}
 use Rattle.tree_model.proofs.Paths.{told}
 use Rattle.store_model.specs.Walk.{Walk, bind}
 use Rattle.store_model.specs.Laid.{LaidVersion, LaidFile, last_laid}
-use Rattle.store_model.specs.Chains.{version_at}
-use Rattle.store_model.specs.Members.{Top, Linked, names_none, last_in, longer, members_linked, tops_linked}
+use Rattle.store_model.specs.Members.{Top, Linked, names_none, longer, members_linked, tops_linked}
 use Rattle.store_model.specs.Changes.{changed_at}
-use Rattle.store_model.proofs.PlaceLists.{IsIn, Apart, Distinct, in_head, in_one, in_tail, in_cons, in_left, in_right, in_either, in_along, none_in, distinct_append, SameBlocks, same_append, same_behind, same_swap, same_from, same_in}
+use Rattle.store_model.proofs.PlaceLists.{IsIn, Apart, Distinct, in_head, in_tail, in_cons, in_left, in_right, in_either, none_in, distinct_append, SameBlocks, same_append, same_behind, same_swap, same_from, same_in}
 use Rattle.store_model.proofs.Steps.{Content, blocks_of, Agree, InRange, Passed, passed, went_on}
 use Rattle.store_model.proofs.Rewriting.{SameVersion, VersionAgain, version_again}
-use Rattle.store_model.proofs.Edits.{some_is, changed_same, changed_twice}
-use Rattle.store_model.proofs.Linking.{InFile, in_file, last_again, Already, Extended, already_goes, MemberRan, member_step, member_goes}
-use Rattle.store_model.proofs.Aside.{objects_of, objects_in, Passes, passes_on, with_file, AsideRan, Step, step_bind, apart_both, apart_next, apart_on, each_both, member_run, member_is_step, members_step, tops_step}
+use Rattle.store_model.proofs.Edits.{changed_same, changed_twice}
+use Rattle.store_model.proofs.Linking.{InFile, in_file, last_again, Extended, already_goes, MemberRan, member_step, member_goes}
+use Rattle.store_model.proofs.Aside.{objects_of, objects_in, with_file, AsideRan, Step, apart_both, apart_next, apart_on, each_both, member_run, member_is_step, members_step, tops_step}
 
 -- the object was named, and its file stayed
 pub record Frozen (k : ℕ) (linked after : Linked) : Type 0 where
@@ -90,8 +89,8 @@ hit_later c d count k change first second xs ys linked seen mid places after all
       same = λ n. same_append two.new (two.again.new ++ two.rest) one.new two.same n
           ∙ same_from ((two.again.new ++ two.rest) ++ one.new) (two.again.new ++ (two.rest ++ one.new)) (append_assoc two.again.new two.rest one.new) n;
       parted = λ n h g. elim (in_either two.rest one.new n h) [
-        inl x ↦ two.parted n x g
-      | inr x ↦ apart_next two.new one.new places seen one.grown two.apart n (inside n g) x
+        | inl x ↦ two.parted n x g
+        | inr x ↦ apart_next two.new one.new places seen one.grown two.apart n (inside n g) x
       ];
       ahead = λ g last named later free clear agree.
           let go : AsideRan (first (with_file (λ f. g (longer two.version f)) k named linked)) (λ f. g (longer two.version f)) k named later one.new linked mid =
@@ -140,16 +139,16 @@ hit_first c d count k change first second xs ys linked seen mid places after all
       each = each_both (InRange count) two.new one.new two.each one.each;
       same = λ n. same_behind two.new one.new (one.again.new ++ one.rest) one.same n ∙ same_swap two.new one.again.new one.rest n;
       parted = λ n h g. elim (in_either two.new one.rest n h) [
-        inl x ↦ apart_next two.new one.new places seen one.grown two.apart n x (inside n g)
-      | inr x ↦ one.parted n x g
+        | inl x ↦ apart_next two.new one.new places seen one.grown two.apart n x (inside n g)
+        | inr x ↦ one.parted n x g
       ];
       ahead = λ g last named later free clear agree.
           let go : AsideRan (first (with_file (λ f. g (longer one.version f)) k named linked)) g k named later one.rest linked mid =
           one.ahead g last named later (λ n h. free n (in_left xs ys n h)) (λ n h i. clear n (in_right two.new one.rest n h) i) (λ n h. agree n (in_right two.new one.rest n h)) in
           let beside : Apart two.new (one.rest ++ later) =
           λ n h i. elim (in_either one.rest later n i) [
-            inl x ↦ apart_next two.new one.new places seen one.grown two.apart n h (rests n x)
-          | inr x ↦ clear n (in_left two.new one.rest n h) x
+            | inl x ↦ apart_next two.new one.new places seen one.grown two.apart n h (rests n x)
+            | inr x ↦ clear n (in_left two.new one.rest n h) x
           ] in
           let rest : AsideRan (second (with_file g k go.names mid)) g k go.names (one.rest ++ later) two.new mid after =
           two.aside g go.names (one.rest ++ later) (λ n h. go.fewer n (free n (in_right xs ys n h))) beside (λ n h. agree n (in_left two.new one.rest n h)) in
@@ -223,8 +222,8 @@ member_hits c d count k change alike top member linked seen after all e r x =
                     ∙ ap (λ l. Ok ((let m : Linked = record { files = l; named = member.object ∷ named } in m), later))
                     (sym (changed_twice g (longer x.version) k linked.files) ∙ ap (changed_at g k) (sym (x.extends ∙ at_k)));
                 fewer = λ n known h. subst (λ l. IsIn l n) (sym r.named) (elim (in_cons member.object n named h) [
-                  inl i ↦ subst (IsIn (member.object ∷ linked.named)) (sym i) (in_head member.object linked.named)
-                | inr i ↦ in_tail member.object n linked.named (known i)
+                  | inl i ↦ subst (IsIn (member.object ∷ linked.named)) (sym i) (in_head member.object linked.named)
+                  | inr i ↦ in_tail member.object n linked.named (known i)
                 ]);
               };
         }
@@ -246,9 +245,9 @@ members_outcome c d count k change alike top (member ∷ others) linked seen aft
     let r : MemberRan c count top member linked seen p.value p.places = member_step c count top member linked seen p.value p.places p.first in
     let f : InFile member.object linked.files r.last = in_file member.object linked.files r.last r.is in
     elim (told (nat_eq (member.object - 1) k)) [
-      inl t ↦ here p r (eqb-true (member.object - 1) k t) (f.counts ∙ ap (λ n. suc n) (eqb-true (member.object - 1) k t))
+      | inl t ↦ here p r (eqb-true (member.object - 1) k t) (f.counts ∙ ap (λ n. suc n) (eqb-true (member.object - 1) k t))
           (λ named. members_step c d count k top others p.value p.places after all (inl named) p.second)
-    | inr n ↦ there p r (λ e. true≢false (sym (eq-eqb (member.object - 1) k e) ∙ n)) (λ e. true≢false (sym (eq-eqb (member.object - 1) k (one_less k member.object e)) ∙ n))
+      | inr n ↦ there p r (λ e. true≢false (sym (eq-eqb (member.object - 1) k e) ∙ n)) (λ e. true≢false (sym (eq-eqb (member.object - 1) k (one_less k member.object e)) ∙ n))
           (members_outcome c d count k change alike top others p.value p.places after all p.second)
     ]
   where
@@ -260,9 +259,9 @@ members_outcome c d count k change alike top (member ∷ others) linked seen aft
         let named : IsIn p.value.named (suc k) =
         subst (λ l. IsIn l (suc k)) (sym r.named) (subst (IsIn (member.object ∷ linked.named)) object (in_head member.object linked.named)) in
         elim r.how [
-          inl x ↦ frozen (record { named = (rest named).names (suc k) named; kept = (rest named).kept ∙ ap (λ l. slice_get l k) x.keeps })
-        | inr x ↦ hit (hit_first c d count k change (member_run d count top member) (members_linked (blocks_of d count) top others) (member.object ∷ []) (objects_of others) linked seen p.value p.places after all
-            (member_hits c d count k change alike top member linked seen p.value p.places e r x) (rest named))
+          | inl x ↦ frozen (record { named = (rest named).names (suc k) named; kept = (rest named).kept ∙ ap (λ l. slice_get l k) x.keeps })
+          | inr x ↦ hit (hit_first c d count k change (member_run d count top member) (members_linked (blocks_of d count) top others) (member.object ∷ []) (objects_of others) linked seen p.value p.places after all
+              (member_hits c d count k change alike top member linked seen p.value p.places e r x) (rest named))
         ]
 
     there : (p : Passed (member_run c count top member linked seen) (members_linked (blocks_of c count) top others) after all)
@@ -273,9 +272,9 @@ members_outcome c d count k change alike top (member ∷ others) linked seen aft
         let one : Step c d count k (member_run d count top member) (member.object ∷ []) linked seen p.value p.places =
         member_is_step c d count k top member linked seen p.value p.places off r in
         elim rest [
-          missed m ↦ missed (λ h. elim (in_cons member.object (suc k) (objects_of others) h) [ inl i ↦ apart i | inr i ↦ m i ])
-        | frozen z ↦ frozen (record { named = z.named; kept = z.kept ∙ one.kept })
-        | hit z ↦ hit (hit_later c d count k change (member_run d count top member) (members_linked (blocks_of d count) top others) (member.object ∷ []) (objects_of others) linked seen p.value p.places after all one z)
+          | missed m ↦ missed (λ h. elim (in_cons member.object (suc k) (objects_of others) h) [ inl i ↦ apart i | inr i ↦ m i ])
+          | frozen z ↦ frozen (record { named = z.named; kept = z.kept ∙ one.kept })
+          | hit z ↦ hit (hit_later c d count k change (member_run d count top member) (members_linked (blocks_of d count) top others) (member.object ∷ []) (objects_of others) linked seen p.value p.places after all one z)
         ]
 
 pub tops_outcome : (c d : Content) (count k : ℕ) (change : LaidVersion → LaidVersion) (alike : (v : LaidVersion) → SameVersion v (change v))
@@ -304,8 +303,8 @@ tops_outcome c d count k change alike (top ∷ others) linked seen after all e =
         let one : Step c d count k (members_linked (blocks_of d count) top top.version.members) (objects_of top.version.members) linked seen p.value p.places =
         members_step c d count k top top.version.members linked seen p.value p.places (inr (inl m)) p.first in
         elim two [
-          missed n ↦ missed (λ h. elim (in_either (objects_of top.version.members) (objects_in others) (suc k) h) [ inl i ↦ m i | inr i ↦ n i ])
-        | frozen z ↦ frozen (record { named = z.named; kept = z.kept ∙ one.kept })
-        | hit z ↦ hit (hit_later c d count k change (members_linked (blocks_of d count) top top.version.members) (tops_linked (blocks_of d count) others)
-            (objects_of top.version.members) (objects_in others) linked seen p.value p.places after all one z)
+          | missed n ↦ missed (λ h. elim (in_either (objects_of top.version.members) (objects_in others) (suc k) h) [ inl i ↦ m i | inr i ↦ n i ])
+          | frozen z ↦ frozen (record { named = z.named; kept = z.kept ∙ one.kept })
+          | hit z ↦ hit (hit_later c d count k change (members_linked (blocks_of d count) top top.version.members) (tops_linked (blocks_of d count) others)
+              (objects_of top.version.members) (objects_in others) linked seen p.value p.places after all one z)
         ]

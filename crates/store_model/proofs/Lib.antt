@@ -9,6 +9,9 @@ pub mod Linking
 pub mod Aside
 pub mod Hits
 pub mod Stores
+pub mod LastVersions
+pub mod SettingLinks
+pub mod Clearing
 pub mod Giving
 pub mod Finding
 pub mod Reading

@@ -1,20 +1,20 @@
 -- The members of tops, one by one: what a member does to the files, and that it goes alike while one other file is changed.
-use Rattle.std.proofs.Common.{◌≡◌, ◌≢◌, ℕ, zero, suc, ◌+◌, ◌-◌, ◌==◌, Bool, true, false, not, ◌&&◌, cond, nat_eq, List, [], ◌∷◌, ◌++◌, map, length, ◌⊎◌, inl, inr, Option, Some, None, option_map, Result, Ok, refl, sym, ap, subst, ◌∙◌, append_assoc, true≢false, eqb-true, arith, slice_get}
+use Rattle.std.proofs.Common.{◌≡◌, ℕ, zero, suc, ◌-◌, ◌==◌, Bool, true, false, not, ◌&&◌, cond, nat_eq, List, ◌∷◌, ◌⊎◌, inl, inr, Option, Some, None, Ok, refl, sym, ap, ◌∙◌, true≢false, eqb-true, arith, slice_get}
 use Rattle.std.specs.List.{list_any}
 use Rattle.std.specs.Option.{is_none, option_and_then}
 use Rattle.std.specs.Cmp.{first_so, second_so}
 use Rattle.page_codec.specs.declared.why.Why.TheVariants.{Member}
 use Rattle.page_codec.specs.Values.{MemberValue}
 use Rattle.tree_model.proofs.Paths.{told, both_true}
-use Rattle.store_model.specs.Walk.{Walk, bind, done, refuse, check}
+use Rattle.store_model.specs.Walk.{bind, done, refuse, check}
 use Rattle.store_model.specs.Laid.{LaidVersion, LaidFile, last_laid}
 use Rattle.store_model.specs.Chains.{version_at}
-use Rattle.store_model.specs.Members.{Top, Linked, names_none, last_in, longer, with_version_at, version_linked, member_linked, members_linked, tops_linked}
+use Rattle.store_model.specs.Members.{Top, Linked, names_none, last_in, longer, with_version_at, version_linked, member_linked}
 use Rattle.store_model.specs.Changes.{changed_at}
-use Rattle.store_model.proofs.PlaceLists.{IsIn, Apart, Distinct, in_head, in_tail, in_cons, in_left, in_right, in_either, none_in, not_in, distinct_append}
-use Rattle.store_model.proofs.Steps.{Content, blocks_of, Agree, InRange, Passed, passed, went_on, ok≢err, same_value, same_places}
-use Rattle.store_model.proofs.Rewriting.{Checked, checked, checks, same_version, VersionAgain, version_again}
-use Rattle.store_model.proofs.Edits.{some_is, none_some, changed_other, changed_swap, longer_is}
+use Rattle.store_model.proofs.PlaceLists.{IsIn}
+use Rattle.store_model.proofs.Steps.{Content, blocks_of, Passed, passed, went_on, ok≢err, same_value, same_places}
+use Rattle.store_model.proofs.Rewriting.{Checked, checked, checks}
+use Rattle.store_model.proofs.Edits.{none_some, longer_is}
 
 -- ---- the last version of an object
 
@@ -71,8 +71,8 @@ version_step c count namer member last files seen after all e = of (last.block =
   where
     of : (b : Bool) → (last.block == member.block) ≡ b
         → cond b (done files)
-            (bind (version_at (blocks_of c count) member.object namer member.block (Some last))
-            (λ version. bind (check (is_none version.commit && names_none version) member.block Member) (λ _. done (with_version_at (member.object - 1) version files)))) seen
+        (bind (version_at (blocks_of c count) member.object namer member.block (Some last))
+        (λ version. bind (check (is_none version.commit && names_none version) member.block Member) (λ _. done (with_version_at (member.object - 1) version files)))) seen
         ≡ Ok (after, all)
         → Already member last files after seen all ⊎ Extended c count namer member last files after seen all
     of true is h = inl (record { is_last = is; keeps = sym (same_value seen all files after h); stays = sym (same_places seen all files after h) })
@@ -100,8 +100,8 @@ already_goes d count namer member last files seen h =
     ap
     (λ b.
     cond b (done files)
-        (bind (version_at (blocks_of d count) member.object namer member.block (Some last))
-        (λ version. bind (check (is_none version.commit && names_none version) member.block Member) (λ _. done (with_version_at (member.object - 1) version files)))) seen)
+    (bind (version_at (blocks_of d count) member.object namer member.block (Some last))
+    (λ version. bind (check (is_none version.commit && names_none version) member.block Member) (λ _. done (with_version_at (member.object - 1) version files)))) seen)
     h
 
 pub extended_goes : (d : Content) (count namer : ℕ) (member : MemberValue) (last version : LaidVersion) (files : List LaidFile) (seen all : List ℕ)
@@ -113,8 +113,8 @@ extended_goes d count namer member last version files seen all h read ends =
     ap
     (λ b.
     cond b (done files)
-        (bind (version_at (blocks_of d count) member.object namer member.block (Some last))
-        (λ version. bind (check (is_none version.commit && names_none version) member.block Member) (λ _. done (with_version_at (member.object - 1) version files)))) seen)
+    (bind (version_at (blocks_of d count) member.object namer member.block (Some last))
+    (λ version. bind (check (is_none version.commit && names_none version) member.block Member) (λ _. done (with_version_at (member.object - 1) version files)))) seen)
     h
     ∙ went_on (version_at (blocks_of d count) member.object namer member.block (Some last)) _ seen version all _ read
     (went_on (check (is_none version.commit && names_none version) member.block Member) (λ _. done (with_version_at (member.object - 1) version files)) all true all _

@@ -1,13 +1,12 @@
 -- What a store is depends on block 0 and on the places that are found, and on no other block.
-use Rattle.std.proofs.Common.{◌≡◌, ◌≤◌, append-nil, ℕ, zero, suc, ◌+◌, ◌-◌, ◌==◌, ◌&&◌, ◌||◌, Bool, true, nat_le, nat_lt, List, [], ◌∷◌, ◌++◌, length, Option, Some, None, Result, Ok, sym, ap, ◌∙◌, option_map, replicate}
+use Rattle.std.proofs.Common.{◌≡◌, ◌≤◌, append-nil, ℕ, zero, suc, ◌+◌, ◌-◌, ◌==◌, ◌&&◌, ◌||◌, true, nat_le, List, [], ◌∷◌, ◌++◌, length, Option, Some, None, Ok, sym, ap, ◌∙◌, option_map, replicate}
 use Rattle.std.specs.Option.{is_none}
-use Rattle.page_codec.specs.declared.why.Why.{Why}
 use Rattle.page_codec.specs.declared.why.Why.TheVariants.{Level, Reference, Object, Serial, Base, Code, Member, Blocks as TooMany}
 use Rattle.page_codec.specs.Values.{ReferenceValue, VersionValue, MemberValue, RootValue}
 use Rattle.page_codec.specs.Blank.{no_entry}
 use Rattle.page_codec.specs.Causes.{page_of, version_of}
 use Rattle.page_codec.specs.TableReading.{part_of, root_of}
-use Rattle.store_model.specs.Walk.{Blocks, Walk, bind, done, refuse, check, decoded, content_at, is_new, place}
+use Rattle.store_model.specs.Walk.{Blocks, Walk, bind, done, content_at}
 use Rattle.store_model.specs.Laid.{Node, LaidVersion, LaidFile, is_block, shared_from, lies_at}
 use Rattle.store_model.specs.Pages.{page_at, own_node, Below, own_from, named_from, slot_from, slots_from, pages_below}
 use Rattle.store_model.specs.Chains.{follows, has_no_members, version_at, chain_from, chain_at}

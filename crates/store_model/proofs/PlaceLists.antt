@@ -1,5 +1,5 @@
 -- Lists of blocks: which blocks they have, that two have none in common, and that one has none twice.
-use Rattle.std.proofs.Common.{◌≡◌, ℕ, suc, ◌<◌, ◌≤◌, Bool, true, false, nat_eq, ◌||◌, List, [], ◌∷◌, ◌++◌, length, ◌⊎◌, inl, inr, refl, sym, ap, ◌∙◌, true≢false, eq-eqb, eqb-true}
+use Rattle.std.proofs.Common.{◌≡◌, ℕ, ◌<◌, ◌≤◌, Bool, true, false, nat_eq, ◌||◌, List, [], ◌∷◌, ◌++◌, length, ◌⊎◌, inl, inr, refl, sym, ap, ◌∙◌, true≢false, eq-eqb, eqb-true}
 use Rattle.std.specs.List.{list_any, IsDistinct, AllByRecursion}
 use Rattle.std.proofs.lemmas.List.Folds.{list_any-append}
 use Rattle.std.proofs.lemmas.Map.Steps.{length-le_from_distinct_below}
@@ -70,6 +70,7 @@ is_distinct (n ∷ ns) d = (none_equal n ns d.0, is_distinct ns d.1)
 -- distinct blocks below a number are no more than it
 pub distinct_within : (count : ℕ) (ns : List ℕ) → Distinct ns → ((n : ℕ) → IsIn ns n → n < count) → length ns ≤ count
 distinct_within count ns d below = length-le_from_distinct_below ns count (is_distinct ns d) below
+
 -- ---- lists with the same blocks
 
 abbrev pub SameBlocks : List ℕ → List ℕ → Type 0

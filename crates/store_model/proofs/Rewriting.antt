@@ -6,7 +6,7 @@ use Rattle.page_codec.specs.declared.why.Why.{Why}
 use Rattle.page_codec.specs.declared.why.Why.TheVariants.{Reference, Object, Serial, Base, Code, Member}
 use Rattle.page_codec.specs.Values.{VersionValue, MemberValue}
 use Rattle.page_codec.specs.Causes.{version_of}
-use Rattle.store_model.specs.Walk.{Walk, Refused, bind, done, refuse, check, decoded, is_new, add, content_at, place}
+use Rattle.store_model.specs.Walk.{bind, done, refuse, check, decoded, is_new, add, content_at, place}
 use Rattle.store_model.specs.Laid.{Node, LaidVersion, is_block}
 use Rattle.store_model.specs.Pages.{pages_below}
 use Rattle.store_model.specs.Chains.{follows, has_no_members, root_node, version_at}
@@ -269,33 +269,33 @@ version_again c d count object namer block before other seen u all alike e =
     let grown : all ≡ new ++ seen = r.grown ∙ sym (append_assoc r.new (block ∷ []) seen) in
     let apart_block : (n : ℕ) → IsIn r.new n → n ≢ block = λ n h i. r.apart n h (subst (λ m. IsIn (block ∷ seen) m) (sym i) (in_head block seen)) in
     let make : (namer : ℕ) (later : List ℕ) (bytes : List ℕ) (page : VersionValue) → Apart new later → d block ≡ Some bytes → version_of bytes ≡ Ok page
-        → page ≡ page_as page.commit page.members v.page → (is_none page.commit || has_no_members page) ≡ true
-        → ((n : ℕ) → IsIn r.new n → c n ≡ d n)
-        → version_at (blocks_of d count) object namer block other later ≡ Ok (made_of block page v.others, new ++ later) =
+    → page ≡ page_as page.commit page.members v.page → (is_none page.commit || has_no_members page) ≡ true
+    → ((n : ℕ) → IsIn r.new n → c n ≡ d n)
+    → version_at (blocks_of d count) object namer block other later ≡ Ok (made_of block page v.others, new ++ later) =
     λ namer later bytes page apart holds reads is members agree.
-        let clear : Apart r.new (block ∷ later) =
-        λ n h g. elim (in_either (block ∷ []) later n g) [
-          inl l ↦ apart_block n h (in_one block n l)
-        | inr k ↦ apart n (in_left r.new (block ∷ []) n h) k
-        ] in
-        let below : pages_below (blocks_of d count) (nodes_of other) 7 block [] page.page.refs (block ∷ later) ≡ Ok (v.others, new ++ later) =
-        ap (λ (p : VersionValue). pages_below (blocks_of d count) (nodes_of other) 7 block [] p.page.refs (block ∷ later)) is
-        ∙ r.anywhere (block ∷ later) clear agree ∙ ap (λ z. Ok (v.others, z)) (sym (append_assoc r.new (block ∷ []) later)) in
-        version_made d count object namer block other later (new ++ later) bytes page v.others v.ranged
-        (λ h. apart block (in_right r.new (block ∷ []) block (in_head block [])) h) holds reads
-        (ap (λ (p : VersionValue). p.object == object) is ∙ v.objects)
-        (subst (λ p. OwesTo p other) (sym is) (owes_as page.commit page.members v.page other (owes_alike v.page before other alike v.owes))) members below in
+    let clear : Apart r.new (block ∷ later) =
+    λ n h g. elim (in_either (block ∷ []) later n g) [
+      | inl l ↦ apart_block n h (in_one block n l)
+      | inr k ↦ apart n (in_left r.new (block ∷ []) n h) k
+    ] in
+    let below : pages_below (blocks_of d count) (nodes_of other) 7 block [] page.page.refs (block ∷ later) ≡ Ok (v.others, new ++ later) =
+    ap (λ (p : VersionValue). pages_below (blocks_of d count) (nodes_of other) 7 block [] p.page.refs (block ∷ later)) is
+    ∙ r.anywhere (block ∷ later) clear agree ∙ ap (λ z. Ok (v.others, z)) (sym (append_assoc r.new (block ∷ []) later)) in
+    version_made d count object namer block other later (new ++ later) bytes page v.others v.ranged
+    (λ h. apart block (in_right r.new (block ∷ []) block (in_head block [])) h) holds reads
+    (ap (λ (p : VersionValue). p.object == object) is ∙ v.objects)
+    (subst (λ p. OwesTo p other) (sym is) (owes_as page.commit page.members v.page other (owes_alike v.page before other alike v.owes))) members below in
     record {
       new = new;
       grown = grown;
       apart = λ n h g. elim (in_either r.new (block ∷ []) n h) [
-        inl l ↦ r.apart n l (in_right (block ∷ []) seen n g)
-      | inr k ↦ v.fresh (subst (IsIn seen) (in_one block n k) g)
+        | inl l ↦ r.apart n l (in_right (block ∷ []) seen n g)
+        | inr k ↦ v.fresh (subst (IsIn seen) (in_one block n k) g)
       ];
       distinct = distinct_append r.new (block ∷ []) r.distinct (none_in block, tt) (λ n h g. apart_block n h (in_one block n g));
       each = λ n h. elim (in_either r.new (block ∷ []) n h) [
-        inl l ↦ r.each n l
-      | inr k ↦ subst (InRange count) (sym (in_one block n k)) (in_range count block v.ranged)
+        | inl l ↦ r.each n l
+        | inr k ↦ subst (InRange count) (sym (in_one block n k)) (in_range count block v.ranged)
       ];
       here = in_right r.new (block ∷ []) block (in_head block []);
       block_is = ap (λ (w : LaidVersion). w.block) v.made;

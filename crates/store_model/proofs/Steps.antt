@@ -1,13 +1,13 @@
 -- Two walks, one over each of two contents, that go alike as far as the contents agree, and from whatever places they start: how such walks are
 -- put together.
-use Rattle.std.proofs.Common.{◌≡◌, ℕ, ◌<◌, ◌≤◌, Bool, true, false, ◌&&◌, nat_le, nat_lt, List, [], ◌∷◌, ◌++◌, ◌⊎◌, inl, inr, Option, Some, None, Result, Ok, Err, refl, sym, ap, subst, ◌∙◌, cond, nat_eq, append_assoc, true≢false}
+use Rattle.std.proofs.Common.{◌≡◌, ℕ, ◌<◌, ◌≤◌, Bool, true, false, ◌&&◌, nat_le, nat_lt, List, [], ◌∷◌, ◌++◌, inl, inr, Option, Some, None, Result, Ok, Err, refl, sym, ap, subst, ◌∙◌, cond, nat_eq, append_assoc, true≢false}
 use Rattle.std.specs.List.{list_any}
 use Rattle.std.proofs.lemmas.Bool.{leb-true, ltb-true}
 use Rattle.std.specs.Cmp.{first_so, second_so}
 use Rattle.page_codec.specs.declared.why.Why.{Why}
 use Rattle.page_codec.specs.declared.why.Why.TheVariants.{Closed, Reference, Seen}
 use Rattle.store_model.specs.Walk.{Blocks, Walk, Refused, and_then, bind, done, refuse, check, decoded, content_at, if_some, is_new, add, place}
-use Rattle.store_model.proofs.PlaceLists.{IsIn, Apart, Distinct, in_head, in_one, in_left, in_right, in_either, in_along, not_in, none_in, distinct_append}
+use Rattle.store_model.proofs.PlaceLists.{IsIn, Apart, Distinct, in_head, in_one, in_left, in_right, in_either, not_in, none_in, distinct_append}
 
 pub ok≢err : {X : Type 0} {e : Refused} {x : X} → (let r : Result X Refused = Err e in r) ≡ Ok x → ⊥
 ok≢err h = cc
@@ -74,8 +74,8 @@ framed_bind {X} {Y} {P} c d walk other next next_other first second =
             new = b.new ++ a.new;
             grown = b.grown ∙ ap (λ places. b.new ++ places) a.grown ∙ sym (append_assoc b.new a.new seen);
             apart = λ n h g. elim (in_either b.new a.new n h) [
-              inl l ↦ beside n l (in_right a.new seen n g)
-            | inr r ↦ a.apart n r g
+              | inl l ↦ beside n l (in_right a.new seen n g)
+              | inr r ↦ a.apart n r g
             ];
             distinct = distinct_append b.new a.new b.distinct a.distinct (λ n h g. beside n h (in_left a.new seen n g));
             each = λ n h. elim (in_either b.new a.new n h) [ inl l ↦ b.each n l | inr r ↦ a.each n r ];
@@ -84,8 +84,8 @@ framed_bind {X} {Y} {P} c d walk other next next_other first second =
                 a.anywhere later (λ n i j. h n (in_right b.new a.new n i) j) (λ n i. agree n (in_right b.new a.new n i)) in
                 let clear : Apart b.new (a.new ++ later) =
                 λ n i j. elim (in_either a.new later n j) [
-                  inl l ↦ beside n i (in_left a.new seen n l)
-                | inr r ↦ h n (in_left b.new a.new n i) r
+                  | inl l ↦ beside n i (in_left a.new seen n l)
+                  | inr r ↦ h n (in_left b.new a.new n i) r
                 ] in
                 let two : next_other p.value (a.new ++ later) ≡ Ok (y, b.new ++ (a.new ++ later)) =
                 b.anywhere (a.new ++ later) clear (λ n i. agree n (in_left b.new a.new n i)) in

@@ -3,8 +3,8 @@ use Rattle.std.proofs.Common.{◌≡◌, ℕ, zero, suc, ◌+◌, true, nat_le, 
 use Rattle.page_codec.specs.declared.why.Why.TheVariants.{Blocks as TooMany}
 use Rattle.page_codec.specs.Values.{RootValue}
 use Rattle.page_codec.specs.TableReading.{root_of}
-use Rattle.store_model.specs.Walk.{Walk, Refused, and_then, bind, done, refuse, check, decoded, content_at}
-use Rattle.store_model.specs.Laid.{LaidVersion, LaidFile, last_laid}
+use Rattle.store_model.specs.Walk.{Refused, and_then, bind, done, refuse, check, decoded, content_at}
+use Rattle.store_model.specs.Laid.{LaidFile, last_laid}
 use Rattle.store_model.specs.Tables.{Row, table_rows, files_from}
 use Rattle.store_model.specs.Members.{Top, Linked, top_of, tops_from, members_linked, tops_linked}
 use Rattle.store_model.specs.Found.{LaidStore, laid_from, laid}
@@ -132,7 +132,7 @@ tops_append c count (top ∷ xs) ys linked seen =
   where
     of : (r : Result (Linked × List ℕ) Refused)
         → ((mid : Linked) (places : List ℕ)
-            → tops_linked (blocks_of c count) (xs ++ ys) mid places ≡ and_then (tops_linked (blocks_of c count) xs mid places) (tops_linked (blocks_of c count) ys))
+        → tops_linked (blocks_of c count) (xs ++ ys) mid places ≡ and_then (tops_linked (blocks_of c count) xs mid places) (tops_linked (blocks_of c count) ys))
         → and_then r (tops_linked (blocks_of c count) (xs ++ ys)) ≡ and_then (and_then r (tops_linked (blocks_of c count) xs)) (tops_linked (blocks_of c count) ys)
     of (Ok p) rest = rest p.0 p.1
     of (Err e) rest = refl

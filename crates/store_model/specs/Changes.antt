@@ -1,10 +1,11 @@
 -- What a store is after one of its blocks was written.
-use Rattle.std.specs.Prelude.{◌≡◌, ◌≢◌, ℕ, zero, suc, ◌-◌, ◌==◌, true, nat_eq, List, [], ◌∷◌, length, Option, Some, None, Result, Ok, slice_get}
+use Rattle.std.specs.Prelude.{◌≡◌, ◌≢◌, ℕ, zero, suc, ◌-◌, false, nat_eq, List, [], ◌∷◌, length, Option, Some, None, Ok, slice_get}
 use Rattle.std.specs.List.{list_any}
 use Rattle.std.specs.Option.{option_and_then}
 use Rattle.page_codec.specs.Values.{VersionValue, MemberValue}
 use Rattle.page_codec.specs.Causes.{version_of}
 use Rattle.store_model.specs.Laid.{LaidVersion, LaidFile, last_laid}
+use Rattle.store_model.specs.Members.{names_none}
 use Rattle.store_model.specs.Found.{LaidStore, laid, found}
 use Rattle.store_model.specs.Laws.{read_of}
 
@@ -75,12 +76,13 @@ LinkingKeeps =
     → LiesIn d most (store_with (committed link.next.block) link.object link.place store) places
     × (found d most ≡ found c most)
 
--- the last version of a file
-pub record IsLastOf (store : LaidStore) (version : LaidVersion) : Type 0 where
+-- a version that names members: the last one of a file
+pub record IsTop (store : LaidStore) (version : LaidVersion) : Type 0 where
   pub object : ℕ
   pub file : LaidFile
   pub listed : slice_get store.files object ≡ Some file
   pub last : last_laid file.versions ≡ Some version
+  pub names : names_none version ≡ false
 
 -- each version of a file that another one follows names it
 abbrev pub IsLinked : LaidFile → Type 0
@@ -99,8 +101,8 @@ abbrev pub ClearingKeeps : Type 0
 ClearingKeeps =
     (c d : ℕ → Option (List ℕ)) (most : ℕ) (store : LaidStore) (places : List ℕ)
     → laid c most [] ≡ Ok (store, places)
-    → (version : LaidVersion) (top : IsLastOf store version)
+    → (version : LaidVersion) (top : IsTop store version)
     → AreLinked store version.members
     → Rewrites c d version.block without_members
-    → (laid d most [] ≡ Ok (store_with cleared top.object (length top.file.versions - 1) store, places))
+    → LiesIn d most (store_with cleared top.object (length top.file.versions - 1) store) places
     × (found d most ≡ found c most)

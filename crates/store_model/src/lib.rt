@@ -3,6 +3,7 @@
 #![tactic(auto)]
 
 ghost use Rattle.store_model.specs.Laws.{PlacesDecide, VersionsAreHeld};
+ghost use Rattle.store_model.specs.Changes.{LinkingKeeps, ClearingKeeps};
 
 /// Runs nothing. Its contract is the law of free blocks: block 0 and the places that were found decide which files a store
 /// holds, whatever the other blocks hold.
@@ -14,4 +15,16 @@ pub fn places_decide()
 /// blocks hold its tree, and no other page.
 pub fn versions_are_held()
     ensures { VersionsAreHeld }
+{}
+
+/// Runs nothing. Its contract is the law of links: where a version without a commit reference is followed by another one all
+/// the same, writing that reference into its block changes nothing else that is found.
+pub fn linking_keeps()
+    ensures { LinkingKeeps }
+{}
+
+/// Runs nothing. Its contract is the law of member lists: once no link is outstanding in the files of its members, writing a
+/// version's block without them changes nothing else that is found.
+pub fn clearing_keeps()
+    ensures { ClearingKeeps }
 {}
