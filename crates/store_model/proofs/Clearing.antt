@@ -126,7 +126,7 @@ ends_nil c most store places p tops mid so_far e k file v listed is =
         ap (λ (w : LaidVersion). w.commit) last ∙ nil_of z.version.commit (first_so (is_none z.version.commit) (names_none z.version) z.ends)
 
 -- a version that names members is a top
-is_top : (object : ℕ) (o : Option LaidVersion) (version : LaidVersion) → o ≡ Some version → names_none version ≡ false
+pub is_top : (object : ℕ) (o : Option LaidVersion) (version : LaidVersion) → o ≡ Some version → names_none version ≡ false
     → top_of object o ≡ (let t : Top = record { object = object; version = version } in t) ∷ []
 is_top object o version is some =
     ap (top_of object) is ∙ ap (λ b. cond b [] ((let t : Top = record { object = object; version = version } in t) ∷ [])) some
@@ -141,7 +141,7 @@ last_redone f versions head rest e =
     ∙ changed_same f (length rest) (head ∷ rest) (last_from head rest) (last_get head rest)
 
 -- the first of some tops
-top_first : (c : Content) (count : ℕ) (top : Top) (others : List Top) (linked : Linked) (seen : List ℕ) (after : Linked) (all : List ℕ)
+pub top_first : (c : Content) (count : ℕ) (top : Top) (others : List Top) (linked : Linked) (seen : List ℕ) (after : Linked) (all : List ℕ)
     → tops_linked (blocks_of c count) (top ∷ others) linked seen ≡ Ok (after, all)
     → Passed (members_linked (blocks_of c count) top top.version.members linked seen) (tops_linked (blocks_of c count) others) after all
 unfolding tops_linked bind

@@ -10,8 +10,11 @@ pub mod Aside
 pub mod Hits
 pub mod Stores
 pub mod LastVersions
+pub mod TopsNamed
+pub mod Swapping
 pub mod SettingLinks
 pub mod Clearing
+pub mod Committing
 pub mod Giving
 pub mod Finding
 pub mod Reading

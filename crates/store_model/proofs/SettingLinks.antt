@@ -119,10 +119,11 @@ nil_of None h = refl
 nil_of (Some n) h = absurd (true≢false (sym h))
 
 -- the chain goes on with the version that the link names
-ends_with : (c d : Content) (count object block : ℕ) (base version : LaidVersion) (from to : List ℕ) → base.commit ≡ Some block → version.block ≡ block → version.commit ≡ None
-    → (va : VersionAgain c d count object version.block (Some base) from version to) → Agree c d va.new → Ends d count object base (version ∷ []) va.new
-ends_with c d count object block base version from to names is ends va agree most here clear =
-    chain_goes d count object most version.block base version (version ∷ []) here (va.new ++ here) (va.new ++ here) (names ∙ ap Some (sym is))
+pub ends_with :
+    (c d : Content) (count object block at : ℕ) (base version : LaidVersion) (from to : List ℕ) → base.commit ≡ Some block → at ≡ block → version.commit ≡ None
+    → (va : VersionAgain c d count object at (Some base) from version to) → Agree c d va.new → Ends d count object base (version ∷ []) va.new
+ends_with c d count object block at base version from to names is ends va agree most here clear =
+    chain_goes d count object most at base version (version ∷ []) here (va.new ++ here) (va.new ++ here) (names ∙ ap Some (sym is))
     (va.again base.block here clear agree) (chain_stops d count object most version (va.new ++ here) ends)
 
 -- the places, in another order
@@ -166,7 +167,7 @@ link_set c d most store places p link rw f =
     let agree : (n : ℕ) → IsIn z.new n → c n ≡ d n = λ n h. written.others n (λ i. z.apart n h (in_them n (subst (IsIn fa.new) (sym i) fa.last.here))) in
     let ends : Ends d count (suc k) (redo base) (z.version ∷ []) z.again.new =
     subst (λ v. Ends d count (suc k) (redo v) (z.version ∷ []) z.again.new) z_base
-    (ends_with c d count (suc k) b (redo z.base) z.version z.from z.to refl (ap (λ (v : LaidVersion). v.block) (sym f.next_is)) (nil_of z.version.commit (first_so (is_none z.version.commit) (names_none z.version) z.ends)) z.again
+    (ends_with c d count (suc k) b z.version.block (redo z.base) z.version z.from z.to refl (ap (λ (v : LaidVersion). v.block) (sym f.next_is)) (nil_of z.version.commit (first_so (is_none z.version.commit) (names_none z.version) z.ends)) z.again
     (λ n h. agree n (inside n h))) in
     let files : List LaidFile = changed_at (file_as (Some b) members place (z.version ∷ [])) k p.files in
     let ran : FilesRan d count 1 p.rows p.in_table files (z.again.new ++ fa.new) =

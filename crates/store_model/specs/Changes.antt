@@ -1,12 +1,14 @@
 -- What a store is after one of its blocks was written.
-use Rattle.std.specs.Prelude.{◌≡◌, ◌≢◌, ℕ, zero, suc, ◌-◌, false, nat_eq, List, [], ◌∷◌, length, Option, Some, None, Ok, slice_get}
+use Rattle.std.specs.Prelude.{◌≡◌, ◌≢◌, ℕ, zero, suc, ◌-◌, true, false, nat_eq, List, [], ◌∷◌, ◌++◌, map, length, Option, Some, None, Ok, slice_get}
 use Rattle.std.specs.List.{list_any}
 use Rattle.std.specs.Option.{option_and_then}
+use Rattle.tree_model.specs.States.{State, Version}
 use Rattle.page_codec.specs.Values.{VersionValue, MemberValue}
 use Rattle.page_codec.specs.Causes.{version_of}
 use Rattle.store_model.specs.Laid.{LaidVersion, LaidFile, last_laid}
-use Rattle.store_model.specs.Members.{names_none}
-use Rattle.store_model.specs.Found.{LaidStore, laid, found}
+use Rattle.store_model.specs.Members.{Linked, names_none, members_linked}
+use Rattle.store_model.specs.Chains.{version_at}
+use Rattle.store_model.specs.Found.{LaidStore, version_in, state_in, laid, found}
 use Rattle.store_model.specs.Laws.{read_of}
 
 -- the version page that a block holds, where it holds one
@@ -106,3 +108,63 @@ ClearingKeeps =
     → Rewrites c d version.block without_members
     → LiesIn d most (store_with cleared top.object (length top.file.versions - 1) store) places
     × (found d most ≡ found c most)
+
+-- a file whose last version names this block, and which has this version behind it
+abbrev pub file_committed : ℕ → LaidVersion → LaidFile → LaidFile
+file_committed block version file =
+    record file { versions = changed_at (committed block) (length file.versions - 1) file.versions ++ version ∷ [] }
+
+-- the files with the next version of one of them, and no member looked at yet
+abbrev pub files_committed : ℕ → ℕ → LaidVersion → LaidStore → Linked
+files_committed object block version store = record { files = changed_at (file_committed block version) object store.files; named = [] }
+
+-- The next version of a file, in blocks that are no places yet: it follows the last version, and names no next one. Its members, if it names
+-- any, are linked or are next versions in turn. The last version names no members, and no version of the store names a member of one of these
+-- files. Objects count from 0 here.
+pub record NextVersion (content : ℕ → Option (List ℕ)) (store : LaidStore) (places : List ℕ) : Type 0 where
+  pub object : ℕ
+  pub file : LaidFile
+  pub base : LaidVersion
+  pub listed : slice_get store.files object ≡ Some file
+  pub last : last_laid file.versions ≡ Some base
+  pub none : names_none base ≡ true
+  pub block : ℕ
+  pub version : LaidVersion
+  pub own : List ℕ
+  pub read : version_at (record { content = content; count = store.root.blocks }) (suc object) base.block block (Some base) places ≡ Ok (version, own)
+  pub nil : version.commit ≡ None
+  pub linked : Linked
+  pub after : List ℕ
+  pub members :
+      members_linked
+      (record { content = content; count = store.root.blocks }) (record { object = suc object; version = version })
+      version.members (files_committed object block version store) own
+      ≡ Ok (linked, after)
+  pub unnamed : (top : LaidVersion) → IsTop store top → (k : ℕ) (member : MemberValue) → slice_get top.members k ≡ Some member
+      → list_any (nat_eq member.object) (suc object ∷ map (λ m. m.object) version.members) ≡ false
+
+-- Writing the commit reference of a last version appends the version that it names, and those of its members, all at once: the files that are
+-- found are those where the members count.
+abbrev pub CommittingTogether : Type 0
+CommittingTogether =
+    (c d : ℕ → Option (List ℕ)) (most : ℕ) (store : LaidStore) (places : List ℕ)
+    → laid c most [] ≡ Ok (store, places)
+    → (next : NextVersion c store places)
+    → Rewrites c d next.base.block (with_commit next.block)
+    → LiesIn d most (record store { files = next.linked.files }) next.after
+    × (found d most ≡ Ok (state_in (record store { files = next.linked.files })))
+
+-- a state with one more version of an object, which counts from 0
+abbrev pub with_version : ℕ → Version → State → State
+with_version object version state =
+    record state { files = changed_at (λ file. record file { versions = file.versions ++ version ∷ [] }) object state.files }
+
+-- where the next version names no members, the state that is found has one more version of its file, and is the same in all else
+abbrev pub CommittingAppends : Type 0
+CommittingAppends =
+    (c d : ℕ → Option (List ℕ)) (most : ℕ) (store : LaidStore) (places : List ℕ)
+    → laid c most [] ≡ Ok (store, places)
+    → (next : NextVersion c store places)
+    → names_none next.version ≡ true
+    → Rewrites c d next.base.block (with_commit next.block)
+    → found d most ≡ Ok (with_version next.object (version_in next.version) (state_in store))

@@ -3,7 +3,7 @@
 #![tactic(auto)]
 
 ghost use Rattle.store_model.specs.Laws.{PlacesDecide, VersionsAreHeld};
-ghost use Rattle.store_model.specs.Changes.{LinkingKeeps, ClearingKeeps};
+ghost use Rattle.store_model.specs.Changes.{LinkingKeeps, ClearingKeeps, CommittingTogether, CommittingAppends};
 
 /// Runs nothing. Its contract is the law of free blocks: block 0 and the places that were found decide which files a store
 /// holds, whatever the other blocks hold.
@@ -27,4 +27,15 @@ pub fn linking_keeps()
 /// version's block without them changes nothing else that is found.
 pub fn clearing_keeps()
     ensures { ClearingKeeps }
+{}
+
+/// Runs nothing. Its contract is the law of commits: where the next version of a file lies whole in blocks that are no places,
+/// and so do those of its members, writing its block into the commit reference of the last version appends it and them.
+pub fn committing_together()
+    ensures { CommittingTogether }
+{}
+
+/// Runs nothing. Its contract is the law of commits for one file: what is found has one more version of it.
+pub fn committing_appends()
+    ensures { CommittingAppends }
 {}
