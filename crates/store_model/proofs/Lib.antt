@@ -20,3 +20,4 @@ pub mod Finding
 pub mod Reading
 pub mod Lying
 pub mod Held
+pub mod PageBytes
