@@ -21,3 +21,4 @@ pub mod Reading
 pub mod Lying
 pub mod Held
 pub mod PageBytes
+pub mod NewFiles

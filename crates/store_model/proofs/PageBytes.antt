@@ -1,7 +1,7 @@
 -- The bytes of a version page with another commit reference or without members: that they are read as that.
-use Rattle.std.proofs.Common.{◌≡◌, ◌≢◌, ℕ, ◌^◌, ◌<◌, ◌≤◌, List, [], length, Option, Some, None, Ok, refl, sym, ap, subst, ◌∙◌, arith}
+use Rattle.std.proofs.Common.{◌≡◌, ◌≢◌, ℕ, ◌^◌, ◌<◌, ◌≤◌, List, [], Some, Ok, refl, ap, ◌∙◌, arith}
 use Rattle.std.specs.Option.{option_and_then}
-use Rattle.page_codec.specs.Values.{VersionValue, MemberValue}
+use Rattle.page_codec.specs.Values.{VersionValue}
 use Rattle.page_codec.specs.Reading.{version_value}
 use Rattle.page_codec.specs.Causes.{first_cause, version_causes, version_of}
 use Rattle.page_codec.specs.Spelling.{version_bytes}

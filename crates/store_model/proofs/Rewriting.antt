@@ -200,7 +200,7 @@ version_read c count object namer block before seen u all e =
       made = sym (same_value w.places all (made_of block q.value w.value) u w.second);
     }
 
-version_made : (c : Content) (count object namer block : ℕ) (before : Option LaidVersion) (seen : List ℕ) (all bytes : List ℕ) (page : VersionValue) (others : List Node)
+pub version_made : (c : Content) (count object namer block : ℕ) (before : Option LaidVersion) (seen : List ℕ) (all bytes : List ℕ) (page : VersionValue) (others : List Node)
     → (nat_le 1 block && nat_lt block count) ≡ true → (IsIn seen block → ⊥) → c block ≡ Some bytes → version_of bytes ≡ Ok page
     → (page.object == object) ≡ true → OwesTo page before → (is_none page.commit || has_no_members page) ≡ true
     → pages_below (blocks_of c count) (option_map (λ v. v.nodes) before) 7 block [] page.page.refs (block ∷ seen) ≡ Ok (others, all)

@@ -1,7 +1,7 @@
 -- Stores made by hand before and after one of their blocks is written: that the laws of such writes speak of something, and what they say there.
 -- Each line is checked by computing.
 use Rattle.std.specs.Prelude.{◌≡◌, ℕ, suc, List, [], ◌∷◌, map, Option, Some, None, option_map, Result, Ok, Err, slice_get, refl}
-use Rattle.std.specs.Option.{option_and_then, option_map_or}
+use Rattle.std.specs.Option.{option_and_then}
 use Rattle.page_codec.specs.Values.{VersionValue}
 use Rattle.page_codec.specs.Numbers.{big_endian, number_at, zeros, pieces}
 use Rattle.page_codec.specs.Blank.{empty_slots, no_entries, no_parts}
@@ -11,7 +11,7 @@ use Rattle.page_codec.specs.Reading.{slots, frame_value, members_value, version_
 use Rattle.page_codec.specs.Causes.{page_causes, version_causes}
 use Rattle.page_codec.specs.TableReading.{raw_entries, part_numbers, head_causes, one_causes, two_causes, root_value, part_causes, part_value}
 use Rattle.store_model.specs.Walk.{Refused, bind, done, refuse, check, decoded, content_at, if_some, is_new, add, place}
-use Rattle.store_model.specs.Laid.{LaidVersion, LaidFile, last_laid}
+use Rattle.store_model.specs.Laid.{LaidVersion, last_laid}
 use Rattle.store_model.specs.Pages.{page_at, own_from, named_from, slot_from, slots_from, pages_below}
 use Rattle.store_model.specs.Chains.{follows, version_at, chain_from, chain_at}
 use Rattle.store_model.specs.Tables.{part_rows, parts_from, table_rows, files_from}
@@ -41,7 +41,7 @@ next_after blocks object block (Ok x) =
     option_and_then
     (λ base.
     outcome_of
-        (version_at (record { content = content_of blocks; count = x.0.root.blocks }) (suc object) base.block block (Some base) x.1))
+    (version_at (record { content = content_of blocks; count = x.0.root.blocks }) (suc object) base.block block (Some base) x.1))
     (option_and_then (λ file. last_laid file.versions) (slice_get x.0.files object))
   where
     outcome_of : Result (LaidVersion × List ℕ) Refused → Option (ℕ × List ℕ)

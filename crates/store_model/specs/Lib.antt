@@ -8,5 +8,6 @@ pub mod Found
 pub mod Places
 pub mod Laws
 pub mod Changes
+pub mod NewStores
 pub mod Examples
 pub mod ChangeExamples

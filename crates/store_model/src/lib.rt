@@ -3,6 +3,7 @@
 #![tactic(auto)]
 
 ghost use Rattle.store_model.specs.Laws.{PlacesDecide, VersionsAreHeld};
+ghost use Rattle.store_model.specs.NewStores.{NewStoreIsFound, ClosedIsRefused};
 ghost use Rattle.store_model.specs.Changes.{LinkingKeeps, ClearingKeeps, CommittingTogether, CommittingAppends};
 
 /// Runs nothing. Its contract is the law of free blocks: block 0 and the places that were found decide which files a store
@@ -38,4 +39,15 @@ pub fn committing_together()
 /// Runs nothing. Its contract is the law of commits for one file: what is found has one more version of it.
 pub fn committing_appends()
     ensures { CommittingAppends }
+{}
+
+/// Runs nothing. Its contract says which files a new store holds: those of its table, each with one version, a page without
+/// data.
+pub fn new_store_is_found()
+    ensures { NewStoreIsFound }
+{}
+
+/// Runs nothing. Its contract says that a store whose block 0 holds nothing is refused for that block.
+pub fn closed_is_refused()
+    ensures { ClosedIsRefused }
 {}
