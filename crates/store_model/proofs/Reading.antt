@@ -21,7 +21,7 @@ pub record Uncaused {X : Type 0} (o : Option Why) (x y : X) : Type 0 where
   pub none : o ≡ None
   pub value : x ≡ y
 
-uncaused : {X : Type 0} (o : Option Why) (x y : X) → cause_or o x ≡ Ok y → Uncaused o x y
+pub uncaused : {X : Type 0} (o : Option Why) (x y : X) → cause_or o x ≡ Ok y → Uncaused o x y
 uncaused None x y e = record { none = refl; value = cc }
 uncaused (Some w) x y e = absurd cc
 

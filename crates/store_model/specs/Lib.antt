@@ -7,4 +7,7 @@ pub mod Members
 pub mod Found
 pub mod Places
 pub mod Laws
+pub mod Changes
+pub mod NewStores
 pub mod Examples
+pub mod ChangeExamples

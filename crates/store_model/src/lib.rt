@@ -3,6 +3,8 @@
 #![tactic(auto)]
 
 ghost use Rattle.store_model.specs.Laws.{PlacesDecide, VersionsAreHeld};
+ghost use Rattle.store_model.specs.NewStores.{NewStoreIsFound, ClosedIsRefused};
+ghost use Rattle.store_model.specs.Changes.{LinkingKeeps, ClearingKeeps, CommittingTogether, CommittingAppends};
 
 /// Runs nothing. Its contract is the law of free blocks: block 0 and the places that were found decide which files a store
 /// holds, whatever the other blocks hold.
@@ -14,4 +16,38 @@ pub fn places_decide()
 /// blocks hold its tree, and no other page.
 pub fn versions_are_held()
     ensures { VersionsAreHeld }
+{}
+
+/// Runs nothing. Its contract is the law of links: where a version without a commit reference is followed by another one all
+/// the same, writing that reference into its block changes nothing else that is found.
+pub fn linking_keeps()
+    ensures { LinkingKeeps }
+{}
+
+/// Runs nothing. Its contract is the law of member lists: once no link is outstanding in the files of its members, writing a
+/// version's block without them changes nothing else that is found.
+pub fn clearing_keeps()
+    ensures { ClearingKeeps }
+{}
+
+/// Runs nothing. Its contract is the law of commits: where the next version of a file lies whole in blocks that are no places,
+/// and so do those of its members, writing its block into the commit reference of the last version appends it and them.
+pub fn committing_together()
+    ensures { CommittingTogether }
+{}
+
+/// Runs nothing. Its contract is the law of commits for one file: what is found has one more version of it.
+pub fn committing_appends()
+    ensures { CommittingAppends }
+{}
+
+/// Runs nothing. Its contract says which files a new store holds: those of its table, each with one version, a page without
+/// data.
+pub fn new_store_is_found()
+    ensures { NewStoreIsFound }
+{}
+
+/// Runs nothing. Its contract says that a store whose block 0 holds nothing is refused for that block.
+pub fn closed_is_refused()
+    ensures { ClosedIsRefused }
 {}
