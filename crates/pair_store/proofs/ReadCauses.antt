@@ -9,7 +9,7 @@ use Rattle.pair_store.specs.Faults.{IsUnread}
 
 module _ (f f' l' : Half → ℕ) (now : ℕ) (Empty : Type 0) where
   unread_half : (half : Half) → HasFailed (f half) (f' half) (l' half) → (IsErrOf {T = Bool} (Err half) A → HasFailed (f B) (f' B) (l' B) ⊎ Empty) → (IsErrOf {T = Bool} (Err half) A → l' A ≡ now) → (IsErrOf {T = Bool} (Err half) B → now ≡ min (l' B + 1) (2 ^ 64 - 1)) → (IsErrOf {T = Bool} (Err half) B → Empty) → IsUnread f f' l' now Empty half
-  unread_half A failed instead last past empty = record { failed = failed; instead = instead refl; last = inl (last refl) }
+  unread_half A failed instead last past empty = record { failed = failed; instead = instead refl; last = inl (refl, last refl) }
   unread_half B failed instead last past empty = record { failed = failed; instead = inr (empty refl); last = inr (refl, past refl, empty refl) }
 
   -- the half that is named is the one that failed
