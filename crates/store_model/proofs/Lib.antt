@@ -22,3 +22,4 @@ pub mod Lying
 pub mod Held
 pub mod PageBytes
 pub mod NewFiles
+pub mod LastLinks

@@ -3,6 +3,7 @@
 #![tactic(auto)]
 
 ghost use Rattle.store_model.specs.Laws.{PlacesDecide, VersionsAreHeld};
+ghost use Rattle.store_model.specs.Links.{MembersAreLast, LinksAreSet};
 ghost use Rattle.store_model.specs.NewStores.{NewStoreIsFound, ClosedIsRefused};
 ghost use Rattle.store_model.specs.Changes.{LinkingKeeps, ClearingKeeps, CommittingTogether, CommittingAppends};
 
@@ -50,4 +51,14 @@ pub fn new_store_is_found()
 /// Runs nothing. Its contract says that a store whose block 0 holds nothing is refused for that block.
 pub fn closed_is_refused()
     ensures { ClosedIsRefused }
+{}
+
+/// Runs nothing. Its contract says that each member that a version names is the last version of its file, linked or not.
+pub fn members_are_last()
+    ensures { MembersAreLast }
+{}
+
+/// Runs nothing. Its contract says that in each file every link is set, or the last one alone is outstanding.
+pub fn links_are_set()
+    ensures { LinksAreSet }
 {}
