@@ -1,7 +1,7 @@
 -- Members and links in each store that is found, and after one of them was written.
-use Rattle.std.proofs.Common.{◌≡◌, ◌≢◌, ℕ, zero, suc, ◌+◌, ◌-◌, ◌==◌, Bool, true, false, nat_eq, List, [], ◌∷◌, ◌++◌, length, inl, inr, ◌⊎◌, Option, Some, None, Result, Ok, refl, sym, ap, subst, ◌∙◌, arith, eqb-true, eq-eqb, true≢false, slice_get, length-append}
+use Rattle.std.proofs.Common.{◌≡◌, ◌≢◌, ℕ, zero, suc, ◌+◌, ◌-◌, true, false, nat_eq, List, [], ◌∷◌, ◌++◌, length, inl, inr, ◌⊎◌, Some, Ok, refl, sym, ap, subst, ◌∙◌, arith, eqb-true, eq-eqb, true≢false, slice_get, length-append}
 use Rattle.std.specs.Option.{is_none}
-use Rattle.std.specs.Cmp.{first_so, second_so}
+use Rattle.std.specs.Cmp.{second_so}
 use Rattle.page_codec.specs.Values.{MemberValue}
 use Rattle.tree_model.proofs.Paths.{told}
 use Rattle.store_model.specs.Walk.{bind}
@@ -15,11 +15,11 @@ use Rattle.store_model.proofs.Steps.{Content, blocks_of, Passed, passed}
 use Rattle.store_model.proofs.Rewriting.{same_version, VersionAgain, version_again}
 use Rattle.store_model.proofs.Chaining.{last_from}
 use Rattle.store_model.proofs.Filing.{FilesAgain, files_again}
-use Rattle.store_model.proofs.Edits.{some_is, none_some, changed_same, changed_other, get_append, get_past, within, last_past}
+use Rattle.store_model.proofs.Edits.{some_is, none_some, changed_same, changed_other, get_append, get_past, last_past}
 use Rattle.store_model.proofs.LastVersions.{chained_next, chained_last, last_get}
-use Rattle.store_model.proofs.Linking.{InFile, in_file, Already, Extended, MemberRan, member_step}
+use Rattle.store_model.proofs.Linking.{InFile, in_file, MemberRan, member_step}
 use Rattle.store_model.proofs.Aside.{objects_of, objects_in, Step, member_run, members_step, tops_step}
-use Rattle.store_model.proofs.Hits.{Frozen, Hit, Outcome, missed, frozen, hit, tops_outcome}
+use Rattle.store_model.proofs.Hits.{Outcome, missed, frozen, hit, tops_outcome}
 use Rattle.store_model.proofs.Stores.{unlinked, Parts, parts_of, TopsSplit, tops_split, tops_append}
 use Rattle.store_model.proofs.SettingLinks.{Found, finds, some_page}
 use Rattle.store_model.proofs.Clearing.{top_kept, is_top, top_first}

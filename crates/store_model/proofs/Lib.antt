@@ -23,3 +23,4 @@ pub mod Held
 pub mod PageBytes
 pub mod NewFiles
 pub mod LastLinks
+pub mod NewBytes

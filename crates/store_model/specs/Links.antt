@@ -1,5 +1,5 @@
 -- What is so of links and members in each store that is found.
-use Rattle.std.specs.Prelude.{◌≡◌, ◌⊎◌, ℕ, suc, ◌-◌, true, List, [], length, Option, Some, None, Result, Ok, slice_get}
+use Rattle.std.specs.Prelude.{◌≡◌, ◌⊎◌, ℕ, suc, ◌-◌, true, List, [], length, Option, Some, Ok, slice_get}
 use Rattle.page_codec.specs.Values.{MemberValue}
 use Rattle.store_model.specs.Laid.{LaidVersion, LaidFile, last_laid}
 use Rattle.store_model.specs.Members.{names_none}
