@@ -1,5 +1,5 @@
 -- Members and links in each store that is found, and after one of them was written.
-use Rattle.std.proofs.Common.{◌≡◌, ◌≢◌, ℕ, zero, suc, ◌+◌, ◌-◌, true, false, nat_eq, List, [], ◌∷◌, ◌++◌, length, inl, inr, ◌⊎◌, Some, Ok, refl, sym, ap, subst, ◌∙◌, arith, eqb-true, eq-eqb, true≢false, slice_get, length-append}
+use Rattle.std.proofs.Common.{◌≡◌, ◌≢◌, ℕ, zero, suc, ◌+◌, ◌-◌, true, false, nat_eq, List, [], ◌∷◌, ◌++◌, length, inl, inr, ◌⊎◌, Some, Ok, refl, sym, ap, subst, ◌∙◌, arith, eqb-true, eq-eqb, true≢false, slice_get, length-append, None}
 use Rattle.std.specs.Option.{is_none}
 use Rattle.std.specs.Cmp.{second_so}
 use Rattle.page_codec.specs.Values.{MemberValue}
@@ -8,7 +8,7 @@ use Rattle.store_model.specs.Walk.{bind}
 use Rattle.store_model.specs.Laid.{LaidVersion, LaidFile, last_laid}
 use Rattle.store_model.specs.Members.{Top, Linked, names_none, tops_from, longer, members_linked, tops_linked}
 use Rattle.store_model.specs.Found.{LaidStore, laid}
-use Rattle.store_model.specs.Changes.{committed, changed_at, file_with, store_with, Outstanding, IsTop, IsLinked}
+use Rattle.store_model.specs.Changes.{committed, cleared, AreLinked, changed_at, file_with, store_with, Outstanding, IsTop, IsLinked}
 use Rattle.store_model.specs.Links.{IsLastOfItsFile, LastLink}
 use Rattle.store_model.proofs.PlaceLists.{IsIn, in_head}
 use Rattle.store_model.proofs.Steps.{Content, blocks_of, Passed, passed}
@@ -262,3 +262,48 @@ top_not_linked c most store places e version top link same =
     let last : version ≡ f.z.version =
     some_is (sym top.last ∙ ap (λ (x : LaidFile). last_laid x.versions) (file ∙ f.file_is) ∙ last_past f.z.file.versions f.z.version) in
     true≢false (sym (second_so (is_none f.z.version.commit) (names_none f.z.version) f.z.ends) ∙ ap (λ v. names_none v) (sym last) ∙ top.names)
+
+-- an item of a list with one changed, as it was
+record WasAt {X : Type 0} (change : X → X) (xs : List X) (j : ℕ) (x : X) : Type 0 where
+  was : X
+  listed : slice_get xs j ≡ Some was
+  is : (x ≡ was) ⊎ (x ≡ change was)
+
+was_at : {X : Type 0} (change : X → X) (place : ℕ) (xs : List X) (j : ℕ) (x : X) → slice_get (changed_at change place xs) j ≡ Some x → WasAt change xs j x
+was_at change place [] j x e = none_some e
+was_at change zero (y ∷ xs) zero x e = record { was = y; listed = refl; is = inr (sym (some_is e)) }
+was_at change zero (y ∷ xs) (suc j) x e = record { was = x; listed = e; is = inl refl }
+was_at change (suc place) (y ∷ xs) zero x e = record { was = x; listed = e; is = inl refl }
+was_at change (suc place) (y ∷ xs) (suc j) x e =
+    let w : WasAt change xs j x = was_at change place xs j x e in
+    record { was = w.was; listed = w.listed; is = w.is }
+
+-- a change that takes no commit reference away
+abbrev pub KeepsLinks : (LaidVersion → LaidVersion) → Type 0
+KeepsLinks change = (v : LaidVersion) → (change v).commit ≡ None → v.commit ≡ None
+
+-- such a change leaves files linked that were
+pub linked_after : (change : LaidVersion → LaidVersion) (place : ℕ) (file : LaidFile) → KeepsLinks change → IsLinked file → IsLinked (file_with change place file)
+linked_after change place file keeps linked k base next before after nil =
+    let b : WasAt change file.versions k base = was_at change place file.versions k base before in
+    let n : WasAt change file.versions (suc k) next = was_at change place file.versions (suc k) next after in
+    linked k b.was n.was b.listed n.listed
+    (elim b.is [
+      | inl e ↦ ap (λ (v : LaidVersion). v.commit) (sym e) ∙ nil
+      | inr e ↦ keeps b.was (ap (λ (v : LaidVersion). v.commit) (sym e) ∙ nil)
+    ])
+
+pub are_linked_after : (change : LaidVersion → LaidVersion) (object place : ℕ) (store : LaidStore) (members : List MemberValue) → KeepsLinks change
+    → AreLinked store members → AreLinked (store_with change object place store) members
+are_linked_after change object place store members keeps linked k member file listed there =
+    let w : WasAt (file_with change place) store.files (member.object - 1) file = was_at (file_with change place) object store.files (member.object - 1) file there in
+    elim w.is [
+      | inl e ↦ subst IsLinked (sym e) (linked k member w.was listed w.listed)
+      | inr e ↦ subst IsLinked (sym e) (linked_after change place w.was keeps (linked k member w.was listed w.listed))
+    ]
+
+pub committed_keeps : (block : ℕ) → KeepsLinks (committed block)
+committed_keeps block v e = none_some (sym e)
+
+pub cleared_keeps : KeepsLinks cleared
+cleared_keeps v e = e
