@@ -16,7 +16,7 @@ use Rattle.store_model.proofs.Rewriting.{same_version, VersionAgain, version_aga
 use Rattle.store_model.proofs.Chaining.{last_from}
 use Rattle.store_model.proofs.Filing.{FilesAgain, files_again}
 use Rattle.store_model.proofs.Edits.{some_is, none_some, changed_same, changed_other, get_append, get_past, last_past}
-use Rattle.store_model.proofs.LastVersions.{chained_next, chained_last, last_get}
+use Rattle.store_model.proofs.LastVersions.{chained_next, chained_last, last_get, last_is}
 use Rattle.store_model.proofs.Linking.{InFile, in_file, MemberRan, member_step}
 use Rattle.store_model.proofs.Aside.{objects_of, objects_in, Step, member_run, members_step, tops_step}
 use Rattle.store_model.proofs.Hits.{Outcome, missed, frozen, hit, tops_outcome}
@@ -132,30 +132,41 @@ chain_linked c most store places p k file listed place base next before after ni
     none_some
     (sym nil ∙ chained_next fa.head fa.rest place base next fa.chained (ap (λ l. slice_get l place) (sym fa.list) ∙ before) (ap (λ l. slice_get l (suc place)) (sym fa.list) ∙ after))
 
+-- the link from a last version of a chain to one behind it
+record LinkFrom (store : LaidStore) (k : ℕ) (file : LaidFile) (base version : LaidVersion) : Type 0 where
+  link : LastLink store k file
+  base_is : link.link.base ≡ base
+  next_is : link.link.next ≡ version
+
 -- a file with a version behind its chain has one link outstanding
 chain_longer : (c : Content) (most : ℕ) (store : LaidStore) (places : List ℕ) (p : Parts c most store places) (k : ℕ) (file old : LaidFile) (base version : LaidVersion)
-    → slice_get store.files k ≡ Some file → slice_get p.files k ≡ Some old → last_laid old.versions ≡ Some base → file ≡ longer version old → LastLink store k file
+    → slice_get store.files k ≡ Some file → slice_get p.files k ≡ Some old → last_laid old.versions ≡ Some base → file ≡ longer version old → LinkFrom store k file base version
 chain_longer c most store places p k file old base version listed here last is =
     let fa : FilesAgain c c p.root.blocks (suc k) 1 k old p.rows p.in_table p.files p.in_files =
     files_again c c p.root.blocks (suc k) 1 k old p.rows p.in_table p.files p.in_files (length old.versions - 1) base (omega arith) p.chains here last in
     let long : length old.versions ≡ suc (length fa.rest) = ap length fa.list in
     let more : length (old.versions ++ version ∷ []) ≡ length old.versions + 1 = length-append old.versions (version ∷ []) in
     let all : length file.versions ≡ length (old.versions ++ version ∷ []) = ap (λ (f : LaidFile). length f.versions) is in
-    let last_one : slice_get old.versions (length fa.rest) ≡ Some (last_from fa.head fa.rest) = ap (λ l. slice_get l (length fa.rest)) fa.list ∙ last_get fa.head fa.rest in
+    let base_is : base ≡ last_from fa.head fa.rest = last_is old.versions fa.head fa.rest base fa.list last in
+    let last_one : slice_get old.versions (length fa.rest) ≡ Some base = ap (λ l. slice_get l (length fa.rest)) fa.list ∙ last_get fa.head fa.rest ∙ ap Some (sym base_is) in
     record {
       link = record {
-        object = k;
-        file = file;
-        place = length fa.rest;
-        base = last_from fa.head fa.rest;
-        next = version;
-        listed = listed;
-        before = ap (λ (f : LaidFile). slice_get f.versions (length fa.rest)) is ∙ get_append old.versions (version ∷ []) (length fa.rest) (last_from fa.head fa.rest) last_one;
-        after = ap (λ (f : LaidFile). slice_get f.versions (suc (length fa.rest))) is ∙ ap (slice_get (old.versions ++ version ∷ [])) (sym long) ∙ get_past old.versions version;
-        nil = chained_last fa.head fa.rest fa.chained;
+        link = record {
+          object = k;
+          file = file;
+          place = length fa.rest;
+          base = base;
+          next = version;
+          listed = listed;
+          before = ap (λ (f : LaidFile). slice_get f.versions (length fa.rest)) is ∙ get_append old.versions (version ∷ []) (length fa.rest) base last_one;
+          after = ap (λ (f : LaidFile). slice_get f.versions (suc (length fa.rest))) is ∙ ap (slice_get (old.versions ++ version ∷ [])) (sym long) ∙ get_past old.versions version;
+          nil = ap (λ (v : LaidVersion). v.commit) base_is ∙ chained_last fa.head fa.rest fa.chained;
+        };
+        of_object = refl;
+        last = omega arith;
       };
-      of_object = refl;
-      last = omega arith;
+      base_is = refl;
+      next_is = refl;
     }
 
 pub links_are_set : (content : Content) (most : ℕ) (store : LaidStore) (places : List ℕ) → laid content most [] ≡ Ok (store, places)
@@ -172,7 +183,7 @@ links_are_set c most store places e k file listed =
         inl (chain_linked c most store places p k file
         (sym (tops_step c c p.root.blocks k (tops_from 1 p.files) (unlinked p.files) p.in_files p.linked places (inr (inl m)) p.tops).kept ∙ there))
     of p there (frozen f) = inl (chain_linked c most store places p k file (sym f.kept ∙ there))
-    of p there (hit z) = inr (chain_longer c most store places p k file z.file z.base z.version listed z.listed z.is (some_page (slice_get p.linked.files k) there z.grown_file))
+    of p there (hit z) = inr (chain_longer c most store places p k file z.file z.base z.version listed z.listed z.is (some_page (slice_get p.linked.files k) there z.grown_file)).link
 
 -- a link that is outstanding is to the last version of its file
 pub outstanding_is_last : (content : Content) (most : ℕ) (store : LaidStore) (places : List ℕ) → laid content most [] ≡ Ok (store, places)
@@ -187,6 +198,51 @@ outstanding_is_last c most store places e link =
     let all : length link.file.versions ≡ length (f.z.file.versions ++ f.z.version ∷ []) = ap (λ (x : LaidFile). length x.versions) f.file_is in
     let at : link.place ≡ length f.fa.rest = f.place_is in
     omega arith
+
+-- a member that is not the last version of its object's chain: the link to it is outstanding
+pub record MemberLink (store : LaidStore) (member : MemberValue) (base : LaidVersion) : Type 0 where
+  pub link : Outstanding store
+  pub of_object : link.object ≡ member.object - 1
+  pub base_is : link.base ≡ base
+  pub next_is : link.next.block ≡ member.block
+
+pub unlinked_member : (content : Content) (most : ℕ) (store : LaidStore) (places : List ℕ) → laid content most [] ≡ Ok (store, places)
+    → (p : Parts content most store places) (version : LaidVersion) → IsTop store version → (k : ℕ) (member : MemberValue) → slice_get version.members k ≡ Some member
+    → (old : LaidFile) (base : LaidVersion) → slice_get p.files (member.object - 1) ≡ Some old → last_laid old.versions ≡ Some base → base.block ≢ member.block
+    → MemberLink store member base
+unlinked_member c most store places e p version top k member is old base listed last off =
+    let l : IsLastOfItsFile store member = members_are_last c most store places e version top k member is in
+    let j : ℕ = member.object - 1 in
+    of l (ap (λ (s : LaidStore). slice_get s.files j) (sym p.made) ∙ l.listed)
+    (tops_outcome c c p.root.blocks j (λ v. v) (λ v. same_version v) (tops_from 1 p.files) (unlinked p.files) p.in_files p.linked places p.tops)
+  where
+    clash : (l : IsLastOfItsFile store member) → slice_get p.linked.files (member.object - 1) ≡ Some l.file
+        → slice_get p.linked.files (member.object - 1) ≡ slice_get p.files (member.object - 1) → ⊥
+    clash l there kept =
+        let file : old ≡ l.file = some_is (sym listed ∙ sym kept ∙ there) in
+        let one : base ≡ l.version = some_is (sym last ∙ ap (λ (f : LaidFile). last_laid f.versions) file ∙ l.last) in
+        off (ap (λ (v : LaidVersion). v.block) one ∙ l.block)
+
+    of : (l : IsLastOfItsFile store member) → slice_get p.linked.files (member.object - 1) ≡ Some l.file
+        → Outcome c c p.root.blocks (member.object - 1) (λ v. v) (tops_linked (blocks_of c p.root.blocks) (tops_from 1 p.files)) (objects_in (tops_from 1 p.files)) (unlinked p.files) p.in_files p.linked places
+        → MemberLink store member base
+    of l there (missed m) =
+        absurd (clash l there
+        (tops_step c c p.root.blocks (member.object - 1) (tops_from 1 p.files) (unlinked p.files) p.in_files p.linked places (inr (inl m)) p.tops).kept)
+    of l there (frozen f) = absurd (clash l there f.kept)
+    of l there (hit z) =
+        let grown : l.file ≡ longer z.version z.file = some_page (slice_get p.linked.files (member.object - 1)) there z.grown_file in
+        let file : z.file ≡ old = some_page (slice_get p.files (member.object - 1)) z.listed listed in
+        let same_base : z.base ≡ base = some_is (sym z.is ∙ ap (λ (f : LaidFile). last_laid f.versions) file ∙ last) in
+        let next : z.version ≡ l.version = some_is (sym (last_past z.file.versions z.version) ∙ ap (λ (f : LaidFile). last_laid f.versions) (sym grown) ∙ l.last) in
+        let f : LinkFrom store (member.object - 1) l.file z.base z.version =
+        chain_longer c most store places p (member.object - 1) l.file z.file z.base z.version l.listed z.listed z.is grown in
+        record {
+          link = f.link.link;
+          of_object = f.link.of_object;
+          base_is = f.base_is ∙ same_base;
+          next_is = ap (λ (v : LaidVersion). v.block) (f.next_is ∙ next) ∙ l.block;
+        }
 
 -- ---- after a write
 
@@ -225,7 +281,7 @@ linked_now c most store places e link place base next before after nil =
         off (omega arith)
 
 -- a change in one file leaves the links of every other one, and its top
-pub link_elsewhere : (change : LaidVersion → LaidVersion) (object place : ℕ) (store : LaidStore) (link : Outstanding store) → link.object ≢ object → Outstanding (store_with change object place store)
+abbrev pub link_elsewhere : (change : LaidVersion → LaidVersion) (object place : ℕ) (store : LaidStore) (link : Outstanding store) → link.object ≢ object → Outstanding (store_with change object place store)
 link_elsewhere change object place store link off =
     record {
       object = link.object;
@@ -239,7 +295,7 @@ link_elsewhere change object place store link off =
       nil = link.nil;
     }
 
-pub top_elsewhere : (change : LaidVersion → LaidVersion) (object place : ℕ) (store : LaidStore) (version : LaidVersion) (top : IsTop store version) → top.object ≢ object
+abbrev pub top_elsewhere : (change : LaidVersion → LaidVersion) (object place : ℕ) (store : LaidStore) (version : LaidVersion) (top : IsTop store version) → top.object ≢ object
     → IsTop (store_with change object place store) version
 top_elsewhere change object place store version top off =
     record {
