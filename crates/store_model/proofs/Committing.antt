@@ -418,7 +418,7 @@ committing_together c d most store places e next rw =
 
 -- ---- one file alone
 
-map_changes : {X Y : Type 0} (f : X → Y) (g : X → X) (h : Y → Y) (k : ℕ) (xs : List X) → ((x : X) → f (g x) ≡ h (f x)) → map f (changed_at g k xs) ≡ changed_at h k (map f xs)
+pub map_changes : {X Y : Type 0} (f : X → Y) (g : X → X) (h : Y → Y) (k : ℕ) (xs : List X) → ((x : X) → f (g x) ≡ h (f x)) → map f (changed_at g k xs) ≡ changed_at h k (map f xs)
 map_changes f g h k [] e = refl
 map_changes f g h zero (x ∷ xs) e = ap (λ y. y ∷ map f xs) (e x)
 map_changes f g h (suc k) (x ∷ xs) e = ap (λ l. f x ∷ l) (map_changes f g h k xs e)

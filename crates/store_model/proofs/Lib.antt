@@ -24,3 +24,4 @@ pub mod PageBytes
 pub mod NewFiles
 pub mod LastLinks
 pub mod NewBytes
+pub mod Gathering

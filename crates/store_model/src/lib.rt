@@ -3,6 +3,7 @@
 #![tactic(auto)]
 
 ghost use Rattle.store_model.specs.Laws.{PlacesDecide, VersionsAreHeld};
+ghost use Rattle.store_model.specs.Together.{CommittingAll};
 ghost use Rattle.store_model.specs.Links.{MembersAreLast, LinksAreSet};
 ghost use Rattle.store_model.specs.NewStores.{NewStoreIsFound, ClosedIsRefused};
 ghost use Rattle.store_model.specs.Changes.{LinkingKeeps, ClearingKeeps, CommittingTogether, CommittingAppends};
@@ -35,6 +36,11 @@ pub fn clearing_keeps()
 /// and so do those of its members, writing its block into the commit reference of the last version appends it and them.
 pub fn committing_together()
     ensures { CommittingTogether }
+{}
+
+/// Runs nothing. Its contract is the law of commits for several files: what is found has one more version of each of them.
+pub fn committing_all()
+    ensures { CommittingAll }
 {}
 
 /// Runs nothing. Its contract is the law of commits for one file: what is found has one more version of it.
