@@ -1,4 +1,4 @@
--- A commit of several files, file by file.
+-- A commit of one file and of several, file by file.
 use Rattle.std.proofs.Common.{◌≡◌, ℕ, suc, ◌-◌, ◌==◌, ◌&&◌, not, Bool, true, false, nat_eq, List, [], ◌∷◌, ◌++◌, map, length, inl, inr, Option, None, Ok, refl, sym, ap, ◌∙◌, eqb-true, true≢false}
 use Rattle.std.specs.List.{list_any}
 use Rattle.std.specs.Option.{is_none}
@@ -13,10 +13,10 @@ use Rattle.store_model.specs.Changes.{Rewrites, with_commit, committed, changed_
 use Rattle.store_model.specs.Together.{News, IsNext, with_news, AreNext, with_all}
 use Rattle.store_model.proofs.PlaceLists.{IsIn}
 use Rattle.store_model.proofs.Steps.{Content, blocks_of, went_on, same_value}
-use Rattle.store_model.proofs.Edits.{map_changed, longer_is}
+use Rattle.store_model.proofs.Edits.{map_changed, map_changes, longer_is}
 use Rattle.store_model.proofs.Linking.{extended_goes, member_goes}
 use Rattle.store_model.proofs.Aside.{member_run}
-use Rattle.store_model.proofs.Committing.{map_changes, committing_together}
+use Rattle.store_model.proofs.Committing.{none_of, alone, committing_together}
 
 not_false : (b : Bool) → not b ≡ true → b ≡ false
 not_false true h = sym h
@@ -90,3 +90,16 @@ committing_all c d most store places e next news are tried rw =
     ∙ ap (λ (l : Linked). Ok (state_as (state_in store) (map file_in l.files))) (sym same)
     ∙ ap (λ s. Ok s) (found_all news start (state_in store))
     ∙ ap (λ files. Ok (with_all news (state_as (state_in store) files))) (found_committed next.block next.version next.object store.files)
+
+-- where the next version names no members, it comes alone
+pub committing_appends : (c d : Content) (most : ℕ) (store : LaidStore) (places : List ℕ) → laid c most [] ≡ Ok (store, places)
+    → (next : NextVersion c store places) → names_none next.version ≡ true → Rewrites c d next.base.block (with_commit next.block)
+    → found d most ≡ Ok (with_version next.object (version_in next.version) (state_in store))
+committing_appends c d most store places e next none rw =
+    let start : Linked = files_committed next.object next.block next.version store in
+    let only : (next.linked.files ≡ start.files) × (next.after ≡ next.own) =
+    alone c store.root.blocks (record { object = suc next.object; version = next.version }) next.version.members start next.own next.linked next.after
+    (none_of next.version.members none) next.members in
+    (committing_together c d most store places e next rw).1
+    ∙ ap (λ files. Ok (state_as (state_in store) (map file_in files))) only.0
+    ∙ ap (λ files. Ok (state_as (state_in store) files)) (found_committed next.block next.version next.object store.files)
