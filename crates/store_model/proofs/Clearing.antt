@@ -95,7 +95,7 @@ top_listed : (c : Content) (most : ℕ) (store : LaidStore) (places : List ℕ) 
 top_listed c most store places p version top = ap (λ (s : LaidStore). slice_get s.files top.object) (sym p.made) ∙ top.listed
 
 -- no member of a top is of a file whose last version names members itself
-top_kept : (c d : Content) (most : ℕ) (store : LaidStore) (places : List ℕ) (p : Parts c most store places) (version : LaidVersion) (top : IsTop store version)
+pub top_kept : (c d : Content) (most : ℕ) (store : LaidStore) (places : List ℕ) (p : Parts c most store places) (version : LaidVersion) (top : IsTop store version)
     → Outcome c d p.root.blocks top.object (λ v. v) (tops_linked (blocks_of d p.root.blocks) (tops_from 1 p.files)) (objects_in (tops_from 1 p.files)) (unlinked p.files) p.in_files p.linked places
     → slice_get p.files top.object ≡ Some top.file
 top_kept c d most store places p version top (missed m) =

@@ -1,23 +1,21 @@
 -- Writing the commit reference of a last version appends the version that it names, and those of its members.
-use Rattle.std.proofs.Common.{◌≡◌, ◌≢◌, ℕ, zero, suc, ◌+◌, ◌-◌, ◌≤◌, ◌==◌, true, false, List, [], ◌∷◌, ◌++◌, map, length, inl, inr, ◌⊎◌, Some, Ok, refl, sym, ap, subst, ◌∙◌, append_assoc, arith, eqb-true, true≢false, slice_get}
-use Rattle.std.proofs.lemmas.List.{map-append}
+use Rattle.std.proofs.Common.{◌≡◌, ◌≢◌, ℕ, suc, ◌+◌, ◌-◌, ◌≤◌, ◌==◌, true, false, List, [], ◌∷◌, ◌++◌, length, inl, inr, ◌⊎◌, Some, Ok, refl, sym, ap, subst, ◌∙◌, append_assoc, arith, eqb-true, true≢false, slice_get}
 use Rattle.tree_model.proofs.Paths.{told}
-use Rattle.tree_model.specs.States.{State}
 use Rattle.store_model.specs.Tables.{table_rows, files_from}
 use Rattle.page_codec.specs.Values.{VersionValue, MemberValue}
 use Rattle.store_model.specs.Walk.{and_then, done}
 use Rattle.store_model.specs.Chains.{version_at}
 use Rattle.store_model.specs.Laid.{LaidVersion, LaidFile, last_laid}
 use Rattle.store_model.specs.Members.{Top, Linked, names_none, top_of, tops_from, members_linked, tops_linked}
-use Rattle.store_model.specs.Found.{LaidStore, version_in, file_in, state_in, laid, found, state_of}
-use Rattle.store_model.specs.Changes.{version_in_block, Rewrites, with_commit, committed, changed_at, file_committed, files_committed, NextVersion, LiesIn, with_version}
+use Rattle.store_model.specs.Found.{LaidStore, state_in, laid, found, state_of}
+use Rattle.store_model.specs.Changes.{version_in_block, Rewrites, with_commit, committed, changed_at, file_committed, files_committed, NextVersion, LiesIn}
 use Rattle.store_model.proofs.PlaceLists.{IsIn, Apart, in_head, in_tail, in_left, in_right, in_either, in_along, none_in, SameBlocks, same_append, same_behind, same_swap, same_from, same_in}
 use Rattle.store_model.proofs.Steps.{Content, blocks_of, Agree, InRange, Ran, Passed, passed, went_on, same_value, same_places}
 use Rattle.store_model.proofs.Locality.{framed_members, framed_tops}
 use Rattle.store_model.proofs.Rewriting.{version_as, VersionAgain, version_again}
 use Rattle.store_model.proofs.Chaining.{last_from, Rewritten, Ends}
 use Rattle.store_model.proofs.Filing.{file_as, FilesRan, FilesAgain, files_again}
-use Rattle.store_model.proofs.Edits.{some_is, map_changed, changed_other, changed_alike, last_past}
+use Rattle.store_model.proofs.Edits.{some_is, changed_other, changed_alike, last_past}
 use Rattle.store_model.proofs.LastVersions.{last_get, last_is}
 use Rattle.store_model.proofs.Aside.{objects_of, objects_in, AsideRan, Step, tops_step, with_file}
 use Rattle.store_model.proofs.Stores.{unlinked, store_of, Parts, parts_of, made_again, TopsSplit, tops_split, tops_append}
@@ -31,7 +29,7 @@ use Rattle.store_model.proofs.Clearing.{is_top}
 abbrev objects : (c : Content) (store : LaidStore) (places : List ℕ) → NextVersion c store places → List ℕ
 objects c store places next = suc next.object ∷ objects_of next.version.members
 
-abbrev top_next : (c : Content) (store : LaidStore) (places : List ℕ) → NextVersion c store places → Top
+abbrev pub top_next : (c : Content) (store : LaidStore) (places : List ℕ) → NextVersion c store places → Top
 top_next c store places next = record { object = suc next.object; version = next.version }
 
 -- no version of the store names a member of one of these objects, so no top does
@@ -41,7 +39,7 @@ unnamed c most store places p next n h i =
     unnamed_by c most store places p n
     (λ top is k member listed e. true≢false (sym (subst (IsIn (objects c store places next)) (sym e) i) ∙ next.unnamed top is k member listed)) h
 
-none_of : (members : List MemberValue) → (length members == 0) ≡ true → members ≡ []
+pub none_of : (members : List MemberValue) → (length members == 0) ≡ true → members ≡ []
 none_of [] h = refl
 none_of (m ∷ ms) h = absurd (many ms h)
   where
@@ -49,7 +47,7 @@ none_of (m ∷ ms) h = absurd (many ms h)
     many ms e = let z : length (m ∷ ms) ≡ 0 = eqb-true (length (m ∷ ms)) 0 e in omega arith
 
 -- what is found where the version names no members
-alone : (c : Content) (count : ℕ) (top : Top) (members : List MemberValue) (linked : Linked) (seen : List ℕ) (after : Linked) (all : List ℕ)
+pub alone : (c : Content) (count : ℕ) (top : Top) (members : List MemberValue) (linked : Linked) (seen : List ℕ) (after : Linked) (all : List ℕ)
     → members ≡ [] → members_linked (blocks_of c count) top members linked seen ≡ Ok (after, all) → (after.files ≡ linked.files) × (all ≡ seen)
 unfolding members_linked done
 alone c count top members linked seen after all none e =
@@ -415,26 +413,3 @@ committing_together c d most store places e next rw =
     elim (told (names_none next.version)) [ inl none ↦ tops_plain c d most store places p next f t none | inr some ↦ tops_with c d most store places p next f t some ] in
     let lies : LiesIn d most (record store { files = next.linked.files }) next.after = commit_lies c d most store places p next f ran in
     (lies, ap state_of lies.laid)
-
--- ---- one file alone
-
-map_changes : {X Y : Type 0} (f : X → Y) (g : X → X) (h : Y → Y) (k : ℕ) (xs : List X) → ((x : X) → f (g x) ≡ h (f x)) → map f (changed_at g k xs) ≡ changed_at h k (map f xs)
-map_changes f g h k [] e = refl
-map_changes f g h zero (x ∷ xs) e = ap (λ y. y ∷ map f xs) (e x)
-map_changes f g h (suc k) (x ∷ xs) e = ap (λ l. f x ∷ l) (map_changes f g h k xs e)
-
-pub committing_appends : (c d : Content) (most : ℕ) (store : LaidStore) (places : List ℕ) → laid c most [] ≡ Ok (store, places)
-    → (next : NextVersion c store places) → names_none next.version ≡ true → Rewrites c d next.base.block (with_commit next.block)
-    → found d most ≡ Ok (with_version next.object (version_in next.version) (state_in store))
-committing_appends c d most store places e next none rw =
-    let b : ℕ = next.block in
-    let w : LaidVersion = next.version in
-    let only : (next.linked.files ≡ changed_at (file_committed b w) next.object store.files) × (next.after ≡ next.own) =
-    alone c store.root.blocks (top_next c store places next) w.members (files_committed next.object b w store) next.own next.linked next.after (none_of w.members none) next.members in
-    (committing_together c d most store places e next rw).1
-    ∙ ap (λ files. Ok (state_in (let s : LaidStore = record store { files = files } in s))) only.0
-    ∙ ap (λ files. Ok ((let s : State = record (state_in store) { files = files } in s)))
-    (map_changes file_in (file_committed b w) (λ file. record file { versions = file.versions ++ version_in w ∷ [] }) next.object store.files
-    (λ file. ap (λ versions. record (file_in file) { versions = versions })
-    (map-append version_in (changed_at (committed b) (length file.versions - 1) file.versions) (w ∷ [])
-    ∙ ap (λ l. l ++ version_in w ∷ []) (map_changed version_in (committed b) (length file.versions - 1) file.versions (λ v. refl)))))

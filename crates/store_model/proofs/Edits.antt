@@ -91,6 +91,12 @@ map_changed f g k [] h = refl
 map_changed f g zero (x ∷ xs) h = ap (λ y. y ∷ map f xs) (h x)
 map_changed f g (suc k) (x ∷ xs) h = ap (λ l. f x ∷ l) (map_changed f g k xs h)
 
+-- a function that takes a change along
+pub map_changes : {X Y : Type 0} (f : X → Y) (g : X → X) (h : Y → Y) (k : ℕ) (xs : List X) → ((x : X) → f (g x) ≡ h (f x)) → map f (changed_at g k xs) ≡ changed_at h k (map f xs)
+map_changes f g h k [] e = refl
+map_changes f g h zero (x ∷ xs) e = ap (λ y. y ∷ map f xs) (e x)
+map_changes f g h (suc k) (x ∷ xs) e = ap (λ l. f x ∷ l) (map_changes f g h k xs e)
+
 -- a change that keeps what is found of each version keeps what is found of the store
 pub state_same : (change : LaidVersion → LaidVersion) (k place : ℕ) (store : LaidStore) → ((v : LaidVersion) → version_in (change v) ≡ version_in v)
     → state_in (store_with change k place store) ≡ state_in store

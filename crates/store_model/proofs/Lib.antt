@@ -22,3 +22,6 @@ pub mod Lying
 pub mod Held
 pub mod PageBytes
 pub mod NewFiles
+pub mod LastLinks
+pub mod NewBytes
+pub mod Gathering

@@ -35,13 +35,13 @@ table_again c d most store places p block off others =
     r.anywhere [] (λ n h g. none_in n g) (λ n h. others n (λ i. off (subst (IsIn p.in_table) i (in_along r.new p.in_table (sym same) n h)))) ∙ ap (λ l. Ok (p.rows, l)) (sym r.grown)
 
 -- which file is the one with the link, and where in it
-record Found (c d : Content) (most : ℕ) (store : LaidStore) (places : List ℕ) (p : Parts c most store places) (change : LaidVersion → LaidVersion) (link : Outstanding store) : Type 0 where
-  z : Hit c d p.root.blocks link.object change (tops_linked (blocks_of d p.root.blocks) (tops_from 1 p.files)) (objects_in (tops_from 1 p.files)) (unlinked p.files) p.in_files p.linked places
-  fa : FilesAgain c d p.root.blocks (suc link.object) 1 link.object z.file p.rows p.in_table p.files p.in_files
-  file_is : link.file ≡ longer z.version z.file
-  place_is : link.place ≡ length fa.rest
-  base_is : link.base ≡ last_from fa.head fa.rest
-  next_is : link.next ≡ z.version
+pub record Found (c d : Content) (most : ℕ) (store : LaidStore) (places : List ℕ) (p : Parts c most store places) (change : LaidVersion → LaidVersion) (link : Outstanding store) : Type 0 where
+  pub z : Hit c d p.root.blocks link.object change (tops_linked (blocks_of d p.root.blocks) (tops_from 1 p.files)) (objects_in (tops_from 1 p.files)) (unlinked p.files) p.in_files p.linked places
+  pub fa : FilesAgain c d p.root.blocks (suc link.object) 1 link.object z.file p.rows p.in_table p.files p.in_files
+  pub file_is : link.file ≡ longer z.version z.file
+  pub place_is : link.place ≡ length fa.rest
+  pub base_is : link.base ≡ last_from fa.head fa.rest
+  pub next_is : link.next ≡ z.version
 
 -- within one chain a version that names none is the last
 never_within : (c d : Content) (most : ℕ) (store : LaidStore) (places : List ℕ) (p : Parts c most store places) (link : Outstanding store) (file : LaidFile)
@@ -97,7 +97,7 @@ found_hit c d most store places p change link z =
           absurd (never_within c d most store places p link z.file fa base next)
     ]
 
-finds : (c d : Content) (most : ℕ) (store : LaidStore) (places : List ℕ) (p : Parts c most store places) (change : LaidVersion → LaidVersion) (link : Outstanding store)
+pub finds : (c d : Content) (most : ℕ) (store : LaidStore) (places : List ℕ) (p : Parts c most store places) (change : LaidVersion → LaidVersion) (link : Outstanding store)
     → Outcome c d p.root.blocks link.object change (tops_linked (blocks_of d p.root.blocks) (tops_from 1 p.files)) (objects_in (tops_from 1 p.files)) (unlinked p.files) p.in_files p.linked places
     → Found c d most store places p change link
 finds c d most store places p change link (missed m) =

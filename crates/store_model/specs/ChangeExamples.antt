@@ -1,6 +1,6 @@
 -- Stores made by hand before and after one of their blocks is written: that the laws of such writes speak of something, and what they say there.
 -- Each line is checked by computing.
-use Rattle.std.specs.Prelude.{◌≡◌, ℕ, suc, List, [], ◌∷◌, map, Option, Some, None, option_map, Result, Ok, Err, slice_get, refl}
+use Rattle.std.specs.Prelude.{◌≡◌, ◌≢◌, ℕ, zero, suc, List, [], ◌∷◌, map, Option, Some, None, option_map, Result, Ok, Err, slice_get, refl}
 use Rattle.std.specs.Option.{option_and_then}
 use Rattle.page_codec.specs.Values.{VersionValue}
 use Rattle.page_codec.specs.Numbers.{big_endian, number_at, zeros, pieces}
@@ -17,7 +17,7 @@ use Rattle.store_model.specs.Chains.{follows, version_at, chain_from, chain_at}
 use Rattle.store_model.specs.Tables.{part_rows, parts_from, table_rows, files_from}
 use Rattle.store_model.specs.Members.{version_linked, member_linked, members_linked, tops_linked}
 use Rattle.store_model.specs.Found.{LaidStore, laid_from, laid}
-use Rattle.store_model.specs.Changes.{version_in_block, with_commit, without_members}
+use Rattle.store_model.specs.Changes.{version_in_block, Rewrites, with_commit, without_members}
 use Rattle.store_model.specs.Examples.{Store, content_of, entry, table, blank_root, version, first_version, naming, member, two_with, naming_store, serials_in, two_files}
 
 -- the blocks of the versions of an object, which counts from 0, each with the block that it names as the next
@@ -81,6 +81,17 @@ pub as_many_versions : serials_in named_by_both ≡ two_files (1 ∷ []) (1 ∷ 
 unfolding serials_in
 as_many_versions = refl
 
+-- the premise of the law: block 2 was written, and no other
+pub the_link_is_written : Rewrites (content_of named_alone) (content_of named_by_both) 2 (with_commit 3)
+unfolding page_in
+the_link_is_written = record { page = first_version 2; was = refl; is = refl; others = but_two }
+  where
+    but_two : (n : ℕ) → n ≢ 2 → content_of named_alone n ≡ content_of named_by_both n
+    but_two zero h = refl
+    but_two (suc zero) h = refl
+    but_two (suc (suc zero)) h = absurd (h refl)
+    but_two (suc (suc (suc n))) h = refl
+
 -- ---- a list of members
 
 -- the same without the members of object 1
@@ -94,6 +105,16 @@ the_page_without_members = refl
 pub as_many_versions_still : serials_in named_by_its_own ≡ two_files (1 ∷ []) (1 ∷ 2 ∷ [])
 unfolding serials_in
 as_many_versions_still = refl
+
+-- block 1 was written, and no other
+pub the_list_is_cleared : Rewrites (content_of named_by_both) (content_of named_by_its_own) 1 without_members
+unfolding page_in
+the_list_is_cleared = record { page = naming (member 2 3) (first_version 1); was = refl; is = refl; others = but_one }
+  where
+    but_one : (n : ℕ) → n ≢ 1 → content_of named_by_both n ≡ content_of named_by_its_own n
+    but_one zero h = refl
+    but_one (suc zero) h = absurd (h refl)
+    but_one (suc (suc n)) h = refl
 
 -- cleared before the link is set, the version that no link names is lost
 pub a_version_is_lost :
@@ -122,6 +143,15 @@ pub the_page_that_commits : page_in after_commit 1 ≡ option_map (with_commit 3
 unfolding page_in
 the_page_that_commits = refl
 
+pub the_commit_is_written : Rewrites (content_of before_commit) (content_of after_commit) 1 (with_commit 3)
+unfolding page_in
+the_commit_is_written = record { page = first_version 1; was = refl; is = refl; others = but_one }
+  where
+    but_one : (n : ℕ) → n ≢ 1 → content_of before_commit n ≡ content_of after_commit n
+    but_one zero h = refl
+    but_one (suc zero) h = absurd (h refl)
+    but_one (suc (suc n)) h = refl
+
 pub found_now : serials_in after_commit ≡ two_files (1 ∷ 2 ∷ []) (1 ∷ [])
 unfolding serials_in
 found_now = refl
@@ -137,6 +167,10 @@ two_next commit =
     ∷ Some (version_bytes (naming (member 2 4) (version 1 2 1 None (Some 1) blank_root)))
     ∷ Some (version_bytes (version 2 2 1 None (Some 2) blank_root))
     ∷ []
+
+pub the_top_of_both : next_in (two_next None) 0 3 ≡ Some (2, 3 ∷ 2 ∷ 1 ∷ [])
+unfolding next_in
+the_top_of_both = refl
 
 pub neither_yet : serials_in (two_next None) ≡ two_files (1 ∷ []) (1 ∷ [])
 unfolding serials_in

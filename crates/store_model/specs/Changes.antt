@@ -86,7 +86,7 @@ pub record IsTop (store : LaidStore) (version : LaidVersion) : Type 0 where
   pub last : last_laid file.versions ≡ Some version
   pub names : names_none version ≡ false
 
--- each version of a file that another one follows names it
+-- each version of a file that another one follows has a commit reference
 abbrev pub IsLinked : LaidFile → Type 0
 IsLinked file =
     (place : ℕ) (base next : LaidVersion) → slice_get file.versions place ≡ Some base → slice_get file.versions (suc place) ≡ Some next

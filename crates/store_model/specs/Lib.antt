@@ -8,6 +8,8 @@ pub mod Found
 pub mod Places
 pub mod Laws
 pub mod Changes
+pub mod Together
+pub mod Links
 pub mod NewStores
 pub mod Examples
 pub mod ChangeExamples

@@ -3,6 +3,8 @@
 #![tactic(auto)]
 
 ghost use Rattle.store_model.specs.Laws.{PlacesDecide, VersionsAreHeld};
+ghost use Rattle.store_model.specs.Together.{CommittingAll};
+ghost use Rattle.store_model.specs.Links.{MembersAreLast, LinksAreSet};
 ghost use Rattle.store_model.specs.NewStores.{NewStoreIsFound, ClosedIsRefused};
 ghost use Rattle.store_model.specs.Changes.{LinkingKeeps, ClearingKeeps, CommittingTogether, CommittingAppends};
 
@@ -36,6 +38,11 @@ pub fn committing_together()
     ensures { CommittingTogether }
 {}
 
+/// Runs nothing. Its contract is the law of commits for several files: what is found has one more version of each of them.
+pub fn committing_all()
+    ensures { CommittingAll }
+{}
+
 /// Runs nothing. Its contract is the law of commits for one file: what is found has one more version of it.
 pub fn committing_appends()
     ensures { CommittingAppends }
@@ -50,4 +57,14 @@ pub fn new_store_is_found()
 /// Runs nothing. Its contract says that a store whose block 0 holds nothing is refused for that block.
 pub fn closed_is_refused()
     ensures { ClosedIsRefused }
+{}
+
+/// Runs nothing. Its contract says that each member that a version names is the last version of its file, linked or not.
+pub fn members_are_last()
+    ensures { MembersAreLast }
+{}
+
+/// Runs nothing. Its contract says that in each file every link is set, or the last one alone is outstanding.
+pub fn links_are_set()
+    ensures { LinksAreSet }
 {}

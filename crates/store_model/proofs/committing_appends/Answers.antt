@@ -1,4 +1,4 @@
-use Rattle.store_model.proofs.Committing.{committing_appends}
+use Rattle.store_model.proofs.Gathering.{committing_appends}
 use Rattle.store_model.proofs.committing_appends.Goals as goal
 
 pub returns : goal.returns
