@@ -1,3 +1,4 @@
 pub mod Chain
 pub mod Flush
 pub mod Laws
+pub mod Updates

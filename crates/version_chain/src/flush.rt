@@ -119,9 +119,10 @@ impl Flush {
         requires update { IsOfUpdate (D.view draft.now) }
         requires serial { D.serial_of draft.now + 1 < 2 ^ 64 }
         requires placed { IsPlaced (D.view draft.now) self.old.placed }
-        ensures { MatchOption result
+        ensures gives { MatchOption result
             (IsDone self.old self.new into.old into.new)
             (λ block. GivesNext (D.view draft.now) (record { root = D.root_of draft.now; object = D.object_of draft.now; serial = D.serial_of draft.now }) self.old self.new block into.new) }
+        ensures same { (self.new.placed ≡ self.old.placed) × (self.new.members ≡ self.old.members) }
     {
         let place = self.turn()?;
         self.write(draft, &place.path, into);

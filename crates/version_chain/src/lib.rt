@@ -13,3 +13,6 @@ pub use chain::Chain;
 pub use flush::Flush;
 pub use head::Head;
 pub use laws::{next_law, whole_law};
+
+#[cfg(test)]
+mod tests;
