@@ -147,8 +147,9 @@ impl CopiedPage {
     pub fn drop_child(&mut self, slot: Slot)
         ensures { self.new ≡ child_dropped slot self.old }
     {
-        self.page.modified |= 1 << slot.get();
-        self.page.refs[slot.get() as usize] = Reference::empty();
+        let number = slot.get();
+        self.page.modified |= 1 << number;
+        self.page.refs[number as usize] = Reference::empty();
     }
 
     /// Takes the page away, and keeps its marks.

@@ -12,3 +12,6 @@ pub use box_draft::BoxDraft;
 pub use draft::Draft;
 pub use slot_marks::SlotMarks;
 pub use tree_model::Memory;
+
+#[cfg(test)]
+mod tests;

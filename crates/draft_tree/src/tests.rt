@@ -1,0 +1,154 @@
+ghost use Rattle.std.specs.Prelude.{◌≡◌, ◌<◌, OnOk, IfOk, IfSome};
+
+use crate::{BoxDraft, Draft, SlotMarks};
+use afs_base::{BlockNo, PageData, Path, Slot};
+use page_codec::{
+    Members, Page, Reference, VersionPage, decode_page, decode_version, encode_page, encode_version,
+};
+use ref_flags::Flags;
+use std::alloc::Global;
+use std::process::Abort;
+use std::test::Fail;
+use tree_model::{Child, Reply, Step};
+
+mod marks;
+mod walks;
+
+/// The path that a text as `/0/12` names.
+fn path(text: &str) -> Option<Path> {
+    let mut path = Path::root();
+    for word in text.split('/') {
+        if !word.is_empty() {
+            let number = word.parse::<u8>().ok()?;
+            path = path.child(Slot::of(number).ok()?).ok()?;
+        }
+    }
+    Some(path)
+}
+
+/// The step that a text as `make /0/12` names. A write writes `new`.
+fn step(text: &str) -> Option<Step> {
+    let (word, rest) = text.split_once(' ')?;
+    let at = path(rest)?;
+    match word {
+        "read" => Some(Step::ReadAt { at }),
+        "list" => Some(Step::ListAt { at }),
+        "write" => Some(Step::WriteAt {
+            at,
+            bytes: PageData::of(b"new"),
+        }),
+        "make" => Some(Step::MakeAt {
+            at: Child::of(&at)?,
+        }),
+        "drop" => Some(Step::DropAt {
+            at: Child::of(&at)?,
+        }),
+        _ => None,
+    }
+}
+
+/// A reference to a block without marks; none to block 0.
+fn reference(block: u32) -> Option<Reference> {
+    let block = BlockNo::of(block).ok()?;
+    if block.get() == 0 {
+        return None;
+    }
+    Some(Reference {
+        flags: Flags::none(),
+        block: Some(block),
+    })
+}
+
+/// The page with a block in a slot; none where its level is 7 or that is no slot or no block.
+fn with_block(page: &Page, slot: usize, block: u32) -> Option<Page>
+    ensures { IfSome result (λ p. p.level ≡ page.now.level) }
+{
+    if page.level >= 7 || slot >= 16 {
+        return None;
+    }
+    let mut changed = *page;
+    changed.refs[slot] = reference(block)?;
+    Some(changed)
+}
+
+/// A page of a level below 7 with one byte and one child.
+fn with_child(level: u8, byte: u8, slot: usize, block: u32) -> Option<Page> {
+    if level >= 7 {
+        return None;
+    }
+    let mut page = Page::empty(level);
+    page.bytes = PageData::of(&[byte]);
+    with_block(&page, slot, block)
+}
+
+/// The page in a block of the base: `/0` in block 4 with `/0/1` in block 5, and below slot 7 one page at each level, that of level n in block
+/// 10 + n.
+fn made(block: u32) -> Option<Page> {
+    match block {
+        4 => with_child(1, b'b', 1, 5),
+        5 => with_child(2, b'c', 0, 9),
+        9 => Some(Page::empty(3)),
+        11..=16 => with_child((block - 10) as u8, b'd', 7, block + 1),
+        17 => Some(Page::empty(7)),
+        _ => None,
+    }
+}
+
+/// The page in a block of the base, after it was written and read.
+fn stored(block: u32) -> Option<Page> {
+    let page = made(block)?;
+    if page.level == 0 {
+        return None;
+    }
+    let mut bytes = [0; 1024];
+    encode_page(&page, &mut bytes);
+    decode_page(&bytes).ok()
+}
+
+/// A version page, after it was written and read.
+fn version(page: Page) -> Option<VersionPage> {
+    if page.level != 0 {
+        return None;
+    }
+    let version = VersionPage {
+        root: Flags::none(),
+        page,
+        object: 5,
+        serial: 9,
+        commit: None,
+        base: None,
+        members: Members::none(),
+    };
+    let mut bytes = [0; 1024];
+    encode_version(&version, &mut bytes);
+    decode_version(&bytes).ok()
+}
+
+/// The base's version page: `/` with `/0` and `/7`.
+fn base() -> Option<VersionPage> {
+    version(with_block(&with_child(0, b'a', 0, 4)?, 7, 11)?)
+}
+
+/// A draft on a version in block 3.
+fn begun(alloc: Global, version: Option<VersionPage>) -> Result<BoxDraft, Fail>
+    ensures { IfOk result (λ d. d.fed ≡ 0) }
+{
+    let version = version.ok_or("no version")?;
+    let at = BlockNo::of(3).ok().ok_or("no block")?;
+    Ok(BoxDraft::begin(alloc, at, &version)?)
+}
+
+/// Feeds what a step needs, and does it.
+fn run(rt: &impl Abort, draft: &mut BoxDraft, step: &Step) -> Result<Reply, Fail>
+    requires { draft.old.fed ≡ 0 }
+    ensures { OnOk result (draft.new.fed ≡ 0) }
+{
+    assert!(rt; draft.count() < 128);
+    for _fed in 0..7u32 {
+        match draft.need(step) {
+            Some((at, block)) => draft.feed(&at, &stored(block.get()).ok_or("no page")?)?,
+            None => return Ok(draft.step(step)?),
+        }
+    }
+    Err(Fail::new("too deep"))
+}
