@@ -1,0 +1,9 @@
+pub mod ReadOnly
+pub mod Passing
+pub mod Slots
+pub mod BeforeLaws
+pub mod Checks
+pub mod VersionWalk
+pub mod Lying
+pub mod ChainWalk
+pub mod ListWalk

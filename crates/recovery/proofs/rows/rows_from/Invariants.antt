@@ -1,0 +1,7 @@
+use Rattle.std.proofs.Common.{◌≡◌, map, take}
+use Rattle.store_model.specs.Tables.{rows_in}
+use Rattle.recovery.specs.Rows.{row_of}
+use Rattle.recovery.proofs.rows.rows_from.Given as goal
+
+abbrev pub invariant-entries : goal.invariant-entries
+invariant-entries l = map row_of l.rows.items ≡ rows_in l.block (take l.entry-index l.entries)
