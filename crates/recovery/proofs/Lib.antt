@@ -7,3 +7,6 @@ pub mod VersionWalk
 pub mod Lying
 pub mod ChainWalk
 pub mod ListWalk
+pub mod TopLists
+pub mod MemberWalk
+pub mod WholeWalk

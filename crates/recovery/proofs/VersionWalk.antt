@@ -1,5 +1,5 @@
 -- The walk over a version: its root, and then the pages below it.
-use Rattle.std.proofs.Common.{◌≡◌, ◌==◌, ◌||◌, ◌+◌, ℕ, true, false, List, [], ◌∷◌, Option, Some, None, option_map, Ok, Err, refl, sym, ap, ◌∙◌}
+use Rattle.std.proofs.Common.{◌≡◌, ◌==◌, ◌||◌, ◌&&◌, ◌+◌, length, ℕ, true, false, List, [], ◌∷◌, Option, Some, None, option_map, Ok, Err, refl, sym, ap, ◌∙◌}
 use Rattle.std.specs.Option.{is_none}
 use Rattle.page_codec.specs.declared.why.Why.TheVariants.{Object, Serial, Base, Code, Member}
 use Rattle.page_codec.specs.Values.{VersionValue}
@@ -11,7 +11,7 @@ use Rattle.store_model.specs.Pages.{pages_below}
 use Rattle.store_model.specs.Chains.{follows, has_no_members, root_node, version_at}
 use Rattle.recovery.specs.declared.version.Prior.{Prior}
 use Rattle.recovery.specs.Results.{Outcome}
-use Rattle.recovery.specs.Versions.{prior_of, follows_prior, checked, root_at}
+use Rattle.recovery.specs.Versions.{prior_of, follows_prior, checked, root_at, tried_at}
 use Rattle.recovery.proofs.Checks.{passes, fails, passes_last, fails_last}
 
 -- ---- what follows a version
@@ -43,7 +43,7 @@ follows_is n version None places = refl
 follows_is n version (Some before) places = refl
 
 -- what goes on after two walks in a row goes on after the second of them
-further : {X Y Z : Type 0} (r : Outcome X) (first : X → Walk Z) (second : X → Walk Y) (next : Y → Walk Z)
+pub further : {X Y Z : Type 0} (r : Outcome X) (first : X → Walk Z) (second : X → Walk Y) (next : Y → Walk Z)
     → ((x : X) (s : List ℕ) → first x s ≡ and_then (second x s) next) → and_then r first ≡ and_then (and_then r second) next
 further (Ok p) first second next h = h p.0 p.1
 further (Err e) first second next h = refl
@@ -90,3 +90,23 @@ module _ (blocks : Blocks) (object namer n : ℕ) (before : Option LaidVersion) 
       → version_at blocks object namer n before places ≡ Ok (found_from n version others, after)
   unfolding bind done
   pages_end others after found = at_root ∙ ap (λ r. and_then r (λ others. done (found_from n version others))) found
+
+-- ---- a member that is tried
+
+module _ (blocks : Blocks) (object namer n : ℕ) (last : LaidVersion) (places : List ℕ) where
+  pub tried_stops : (e : Refused) → version_at blocks object namer n (Some last) places ≡ Err e → tried_at blocks object namer n last places ≡ Err e
+  unfolding tried_at bind
+  tried_stops e is = ap (λ r. and_then r (λ version. bind (check (is_none version.commit && length version.members == 0) n Member) (λ _. done version))) is
+
+  module _ (version : LaidVersion) (after : List ℕ) (is : version_at blocks object namer n (Some last) places ≡ Ok (version, after)) where
+    pub tried_fails : (is_none version.commit && length version.members == 0) ≡ false → tried_at blocks object namer n last places ≡ Err (record { block = n; why = Member })
+    unfolding tried_at bind
+    tried_fails test =
+        ap (λ r. and_then r (λ version. bind (check (is_none version.commit && length version.members == 0) n Member) (λ _. done version))) is
+        ∙ fails (is_none version.commit && length version.members == 0) n Member (λ _. done version) after test
+
+    pub tried_passes : (is_none version.commit && length version.members == 0) ≡ true → tried_at blocks object namer n last places ≡ Ok (version, after)
+    unfolding tried_at bind done
+    tried_passes test =
+        ap (λ r. and_then r (λ version. bind (check (is_none version.commit && length version.members == 0) n Member) (λ _. done version))) is
+        ∙ passes (is_none version.commit && length version.members == 0) n Member (λ _. done version) after test

@@ -7,3 +7,5 @@ pub mod Before
 pub mod Versions
 pub mod Rows
 pub mod Files
+pub mod Tops
+pub mod Checked

@@ -1,5 +1,5 @@
 -- A version as the walk in code keeps it, and its root.
-use Rattle.std.specs.Prelude.{◌==◌, ◌+◌, ℕ, Bool, true, ◌||◌, Option, Some, None}
+use Rattle.std.specs.Prelude.{◌==◌, ◌+◌, ℕ, Bool, true, ◌||◌, ◌&&◌, length, Option, Some, None}
 use Rattle.std.specs.Option.{is_none}
 use Rattle.page_codec.specs.declared.why.Why.TheVariants.{Object, Serial, Base, Code, Member}
 use Rattle.page_codec.specs.Values.{VersionValue}
@@ -7,7 +7,7 @@ use Rattle.page_codec.specs.Causes.{version_of}
 use Rattle.draft_model.specs.Places.{Store}
 use Rattle.store_model.specs.Walk.{Blocks, Walk, ◌>>=◌, ◌>>◌, done, check, decoded, place}
 use Rattle.store_model.specs.Laid.{LaidVersion, is_block}
-use Rattle.store_model.specs.Chains.{has_no_members}
+use Rattle.store_model.specs.Chains.{has_no_members, version_at}
 use Rattle.recovery.specs.declared.version.Prior.{Prior}
 use Rattle.recovery.specs.declared.version.FoundVersion.{FoundVersion}
 use Rattle.recovery.specs.Before.{PagesLie}
@@ -47,3 +47,10 @@ root_at blocks object namer block before = do
   bytes ← place blocks namer block
   version ← decoded block (version_of bytes)
   checked object block before version
+
+-- a member that is not linked yet, as the next version of its file
+unfoldable pub tried_at : Blocks → ℕ → ℕ → ℕ → LaidVersion → Walk LaidVersion
+tried_at blocks object namer block last = do
+  version ← version_at blocks object namer block (Some last)
+  check (is_none version.commit && length version.members == 0) block Member
+  done version

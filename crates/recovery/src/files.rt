@@ -1,5 +1,5 @@
 // The files of a store.
-ghost use Rattle.std.specs.Prelude.{◌≡◌, ◌≤◌, ◌+◌, ℕ, List, map, length, Option, Some, IsErrOf};
+ghost use Rattle.std.specs.Prelude.{◌≡◌, ◌≤◌, ◌+◌, ℕ, List, map, length, Option, Some, IsErrOf, IfOk};
 ghost use Rattle.drives.specs.declared.device.Half.{Half};
 ghost use Rattle.store_model.specs.Walk.{if_some};
 ghost use Rattle.store_model.specs.Laid.{LaidFile, LaidVersion};
@@ -57,6 +57,7 @@ pub fn files_from<B: Blocks>(
     ensures walk { IsTold B.tells B.settled survey.old
         → Shows (λ chains (files : List LaidFile). LikeFiles (pages_of (B.content survey.old.began)) survey.old.count chains.items files) result
         (files_from (blocks_in B.content survey.old) 1 (map row_of rows.now) survey.old.list) survey.new.list }
+    ensures size { IfOk result (λ chains. length chains.items ≡ length rows.now) }
     ensures unread { (h : Half) → IsErrOf result (CheckRefused.ReadFault h)
         → IsUnreadSince B.tells B.moment B.content B.settled B.faults B.last_fault survey.new.began survey.new.store h }
 {

@@ -3,6 +3,7 @@
 
 mod before;
 mod chain;
+mod checking;
 mod files;
 mod listed;
 mod pages;
@@ -11,6 +12,14 @@ mod reading;
 mod refused;
 mod rows;
 mod survey;
+mod tops;
 mod version;
 
+pub use chain::Chain;
+pub use checking::{Checked, check};
 pub use refused::CheckRefused;
+pub use tops::{Link, Top};
+pub use version::FoundVersion;
+
+#[cfg(test)]
+mod tests;

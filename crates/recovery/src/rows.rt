@@ -1,5 +1,5 @@
 // The table of a store, and the entries that it has.
-ghost use Rattle.std.specs.Prelude.{◌≡◌, ◌≤◌, ◌<◌, ◌++◌, ℕ, List, map, length, replicate, IsErrOf, IfOk, Some};
+ghost use Rattle.std.specs.Prelude.{◌≡◌, ◌≢◌, ◌≤◌, ◌*◌, map, length, replicate, IsErrOf, IfOk, Some};
 ghost use Rattle.drives.specs.declared.device.Half.{Half};
 ghost use Rattle.page_codec.specs.Blank.{no_entry};
 ghost use Rattle.store_model.specs.Tables.{part_rows, parts_from, rows_in, table_rows};
@@ -35,7 +35,9 @@ pub fn root_block() -> BlockNo
 
 /// These entries of this block.
 fn rows_from(alloc: Global, block: BlockNo, entries: &[TableEntry]) -> Result<Vec<Row>, AllocError>
-    ensures { IfOk result (λ rows. map row_of rows.items ≡ rows_in block entries.now) }
+    ensures rows { IfOk result (λ rows. map row_of rows.items ≡ rows_in block entries.now) }
+    ensures entries { IfOk result (λ rows. map (λ row. row.entry) rows.items ≡ entries.now) }
+    ensures size { IfOk result (λ rows. length rows.items ≡ length entries.now) }
 {
     let mut rows = Vec::new(alloc);
     'entries: for entry in entries {
@@ -66,6 +68,7 @@ fn read_part<B: Blocks>(
     ensures count { survey.new.count ≡ survey.old.count }
     ensures walk { IsTold B.tells B.settled survey.old
         → Walks (λ rows. map row_of rows.items) result (part_rows (blocks_in B.content survey.old) j (Some n) survey.old.list) survey.new.list }
+    ensures size { IfOk result (λ rows. length rows.items ≡ 63) }
     ensures unread { (h : Half) → IsErrOf result (CheckRefused.ReadFault h)
         → IsUnreadSince B.tells B.moment B.content B.settled B.faults B.last_fault survey.new.began survey.new.store h }
 {
@@ -91,6 +94,7 @@ fn part_rows<B: Blocks>(
     ensures count { survey.new.count ≡ survey.old.count }
     ensures walk { IsTold B.tells B.settled survey.old
         → Walks (λ rows. map row_of rows.items) result (part_rows (blocks_in B.content survey.old) j part.now survey.old.list) survey.new.list }
+    ensures size { IfOk result (λ rows. length rows.items ≡ 63) }
     ensures unread { (h : Half) → IsErrOf result (CheckRefused.ReadFault h)
         → IsUnreadSince B.tells B.moment B.content B.settled B.faults B.last_fault survey.new.began survey.new.store h }
 {
@@ -111,6 +115,7 @@ fn all_parts<B: Blocks>(
     ensures count { survey.new.count ≡ survey.old.count }
     ensures walk { IsTold B.tells B.settled survey.old
         → Walks (λ rows. map row_of rows.items) result (parts_from (blocks_in B.content survey.old) 0 parts.now survey.old.list) survey.new.list }
+    ensures size { IfOk result (λ rows. length rows.items ≡ 63 * length parts.now) }
     ensures unread { (h : Half) → IsErrOf result (CheckRefused.ReadFault h)
         → IsUnreadSince B.tells B.moment B.content B.settled B.faults B.last_fault survey.new.began survey.new.store h }
 {
@@ -133,6 +138,9 @@ pub fn table_rows<B: Blocks>(
     ensures count { survey.new.count ≡ survey.old.count }
     ensures walk { IsTold B.tells B.settled survey.old
         → Walks (λ rows. map row_of rows.items) result (table_rows (blocks_in B.content survey.old) root.now survey.old.list) survey.new.list }
+    ensures one { root.now.format ≡ 1 → IfOk result (λ rows. map (λ row. row.entry) rows.items ≡ root.now.first) }
+    ensures two { root.now.format ≢ 1 → IfOk result (λ rows. length rows.items ≡ 4032) }
+    ensures most { IfOk result (λ rows. length rows.items ≤ 4032) }
     ensures unread { (h : Half) → IsErrOf result (CheckRefused.ReadFault h)
         → IsUnreadSince B.tells B.moment B.content B.settled B.faults B.last_fault survey.new.began survey.new.store h }
 {

@@ -1,4 +1,4 @@
-use Rattle.std.proofs.Common.{◌≡◌, ◌+◌, ◌≤◌, ℕ, List, Option, Ok, Err, refl, sym, ap, subst, ◌∙◌, map, length, arith, Vec, Global}
+use Rattle.std.proofs.Common.{◌≡◌, ◌+◌, ◌≤◌, ℕ, List, Option, Ok, Err, length-append, [], ◌∷◌, refl, sym, ap, subst, ◌∙◌, map, length, arith, Vec, Global}
 use Rattle.std.proofs.lemmas.Result.{err_from_is_err_and}
 use Rattle.store_model.specs.Walk.{if_some}
 use Rattle.store_model.specs.Laid.{LaidFile, LaidVersion}
@@ -18,6 +18,7 @@ pub files-init : goal.files-init
 files-init g c = record {
   began = refl;
   count = refl;
+  size = ap length c.new-chains.ensures.items;
   far = λ told.
       let S = pages_of (g.B.Blocks.content c.args.survey.now.began) in
       subst (λ (chains : List (Option Chain)). FilesSoFar S (blocks_in g.B.Blocks.content c.args.survey.now) c.args.rows.now c.args.survey.now.list 0 chains c.args.survey.now.list)
@@ -38,6 +39,7 @@ files-preserved g c =
     record {
       began = e.began ∙ i.began;
       count = e.count ∙ i.count;
+      size = Prim.omega (arith, i.size, ap length c.in_ok-push.ensures.items, length-append c.files.chains.items (c.in_ok-chain.chain ∷ []));
       far = λ told.
           let S = pages_of (b.content s.began) in
           let found = e.walk (told_on b.tells b.settled s l i.began i.count told) in

@@ -1,4 +1,4 @@
-use Rattle.std.proofs.Common.{◌≡◌, ◌+◌, ◌≤◌, ◌++◌, ℕ, List, Ok, Err, sym, ap, subst, ◌∙◌, map, length, arith, Vec, Global, append-nil}
+use Rattle.std.proofs.Common.{◌≡◌, ◌+◌, ◌≤◌, ◌++◌, ℕ, List, Ok, Err, sym, ap, subst, ◌∙◌, map, length, arith, Vec, Global, append-nil, length-append}
 use Rattle.std.proofs.lemmas.List.{map-append}
 use Rattle.std.proofs.lemmas.Result.{err_from_is_err_and}
 use Rattle.store_model.specs.Tables.{Row as ModelRow, part_rows, parts_from}
@@ -25,6 +25,7 @@ parts-preserved g c =
     record {
       began = e.began ∙ i.began;
       count = e.count ∙ i.count;
+      size = Prim.omega (arith, i.size, e.size, ap length c.in_ok-extend_from_slice.ensures.items, length-append c.parts.rows.items c.as_slice.result.now, ap length c.as_slice.ensures.value);
       far = λ told.
           let is = back b.tells b.settled s l i.began i.count
           (λ d m. part_rows (record { content = b.content d; count = m }) j other l.list ≡ Ok (found, after))
