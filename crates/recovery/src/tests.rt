@@ -1,0 +1,144 @@
+//! Stores made by hand: a file with two versions, a member that is not linked yet, and each cause once.
+ghost use Rattle.std.specs.Prelude.{◌≡◌, ◌*◌, length, IfOk};
+
+use crate::{CheckRefused, check};
+use afs_base::BlockNo;
+use drives::MemDrives;
+use page_codec::{Why, fresh_image};
+use pair_store::Pair;
+use std::alloc::{AllocError, Global};
+use std::test::Fail;
+
+/// Bytes to be put at an offset.
+type Patch = (usize, &'static [u8]);
+
+/// Files 1 to 3 in blocks 1 to 3. File 1 has a second version in block 4. File 3 names a second version of file 2 as its
+/// member, in block 5, to which no link was set.
+const HISTORY: [Patch; 8] = [
+    (1024 + 82, &[0, 0, 0, 4]),
+    (4096 + 3, &[7]),
+    (4096 + 81, &[2]),
+    (4096 + 86, &[0, 0, 0, 1]),
+    (3072 + 90, &[1, 0, 0, 0, 2, 0, 0, 0, 5]),
+    (5120 + 3, &[7]),
+    (5120 + 81, &[2]),
+    (5120 + 86, &[0, 0, 0, 2]),
+];
+
+const CASES: [(&[Patch], Option<(u32, Why)>); 20] = [
+    (&[], None),
+    // The base of a first version is not looked at.
+    (&[(1024 + 86, &[0, 0, 0, 7])], None),
+    (&[(0, &[0])], Some((0, Why::Closed))),
+    (&[(2, &[3])], Some((0, Why::Format))),
+    (&[(4, &[0, 0, 0, 9])], Some((0, Why::Blocks))),
+    (&[(32, &[0, 0, 0, 1])], Some((1, Why::Seen))),
+    (&[(48, &[0, 0, 0, 7])], Some((7, Why::Closed))),
+    (&[(1024 + 73, &[2])], Some((1, Why::Object))),
+    (&[(1024 + 4, &[0, 0, 0, 8])], Some((1, Why::Reference))),
+    (&[(1024 + 4, &[0, 0, 0, 2])], Some((2, Why::Kind))),
+    (&[(1024 + 82, &[0, 0, 0, 1])], Some((1, Why::Seen))),
+    (
+        &[(1024 + 90, &[1, 0, 0, 0, 2, 0, 0, 0, 5])],
+        Some((1, Why::Member)),
+    ),
+    (&[(4096 + 81, &[3])], Some((4, Why::Serial))),
+    (&[(4096 + 89, &[2])], Some((4, Why::Base))),
+    (&[(4096 + 3, &[0])], Some((4, Why::Code))),
+    // A page that was not copied is that of the version before, which has none.
+    (&[(4096 + 4, &[0, 0, 0, 6])], Some((4, Why::Reference))),
+    (&[(4096 + 4, &[0x10, 0, 0, 6])], Some((6, Why::Closed))),
+    (&[(3072 + 94, &[3])], Some((3, Why::Member))),
+    (&[(3072 + 98, &[4])], Some((4, Why::Seen))),
+    (&[(5120 + 82, &[0, 0, 0, 6])], Some((5, Why::Member))),
+];
+
+fn put(half: &mut Vec<u8>, at: usize, bytes: &[u8])
+    ensures { length half.new.items ≡ length half.old.items }
+{
+    'bytes: for k in 0..bytes.len() {
+        if k < half.len() && at < half.len() - k {
+            half[at + k] = bytes[k];
+        }
+    }
+}
+
+fn put_all(half: &mut Vec<u8>, patches: &[Patch])
+    ensures { length half.new.items ≡ length half.old.items }
+{
+    'patches: for patch in patches {
+        put(half, patch.0, patch.1);
+    }
+}
+
+fn copy_block(half: &mut Vec<u8>, from: usize, to: usize)
+    ensures { length half.new.items ≡ length half.old.items }
+{
+    'bytes: for k in 0..1024 {
+        if from <= 7168 && to <= 7168 && half.len() == 8192 {
+            half[to + k] = half[from + k];
+        }
+    }
+}
+
+fn half_with(alloc: Global, patches: &[Patch]) -> Result<Vec<u8>, AllocError>
+    ensures { IfOk result (λ half. length half.items ≡ 1024 * 8) }
+{
+    let mut half = fresh_image(alloc, 3, 8, 7)?;
+    half.resize(8192, 0)?;
+    copy_block(&mut half, 1024, 4096);
+    copy_block(&mut half, 2048, 5120);
+    put_all(&mut half, &HISTORY);
+    put_all(&mut half, patches);
+    Ok(half)
+}
+
+fn pair_with(alloc: Global, patches: &[Patch]) -> Result<Pair<MemDrives>, Fail> {
+    let a = half_with(alloc, patches)?;
+    let b = half_with(alloc, patches)?;
+    Ok(Pair::over(MemDrives::of_halves(alloc, a, b)?))
+}
+
+/// Why a store with these bytes is refused.
+fn refused(alloc: Global, patches: &[Patch]) -> Result<Option<CheckRefused>, Fail> {
+    let pair = pair_with(alloc, patches)?;
+    let (_pair, checked) = check(alloc, pair);
+    Ok(checked.err())
+}
+
+fn bad(cause: &Option<(u32, Why)>) -> Result<Option<CheckRefused>, Fail> {
+    match cause {
+        None => Ok(None),
+        Some((n, why)) => Ok(Some(CheckRefused::BadStore {
+            block: BlockNo::of(*n)?,
+            why: *why,
+        })),
+    }
+}
+
+#[test]
+fn each_cause_is_found(rt: HostRuntime) -> Result<(), Fail> {
+    'cases: for (patches, cause) in &CASES {
+        let found = refused(rt.alloc(), patches)?;
+        assert_eq!(rt; found, bad(cause)?);
+    }
+    Ok(())
+}
+
+#[test]
+fn a_lawful_store_is_told(rt: HostRuntime) -> Result<(), Fail> {
+    let pair = pair_with(rt.alloc(), &[])?;
+    let (_pair, checked) = check(rt.alloc(), pair);
+    let checked = checked?;
+    assert_eq!(rt; checked.map.free(), 2);
+    assert_eq!(rt; checked.links.len(), 1);
+    assert_eq!(rt; checked.tops.len(), 1);
+    assert_eq!(rt; checked.links[0].base.get(), 2);
+    assert_eq!(rt; checked.links[0].next.get(), 5);
+    assert_eq!(rt; checked.heads.len(), 60);
+    let last = checked.heads[0]
+        .as_ref()
+        .map(|chain| chain.last.block.get());
+    assert_eq!(rt; last, Some(4));
+    Ok(())
+}
