@@ -1,5 +1,5 @@
 -- Updates on hand-made bases stand for what they are said to.
-use Rattle.std.proofs.Common.{◌≡◌, ℕ, zero, suc, ◌+◌, ◌≤◌, false, ◌||◌, cond, nat_eq, List, [], ◌∷◌, ◌++◌, length, replicate, refl, sym, ap, subst, ◌∙◌, Option, Some, None, arith, eq-eqb, length-append}
+use Rattle.std.proofs.Common.{◌≡◌, ℕ, Bool, zero, suc, ◌+◌, ◌≤◌, false, cond, nat_eq, List, [], ◌∷◌, ◌++◌, length, replicate, refl, sym, ap, subst, ◌∙◌, Option, Some, None, arith, eq-eqb, length-append}
 use Rattle.std.specs.Option.{option_and_then, option_map_or}
 use Rattle.std.specs.List.{slice_get, slice_set}
 use Rattle.std.specs.FinMap as finite
@@ -115,32 +115,29 @@ begun_on_one d root page given begins is empty level = let F : PageValue → Typ
 
 -- ---- a base with two pages below `/`, which have no slots and no data
 
-three_blocks : PageValue → PageValue → Store
-three_blocks page leaf n = cond (nat_eq n 3) (Some page) (cond (nat_eq n 4 || nat_eq n 5) (Some leaf) None)
+-- the page `/` in its block, and the other page in every other one
+two_kinds : ℕ → PageValue → PageValue → Store
+two_kinds root page leaf n = cond (nat_eq n root) (Some page) (Some leaf)
 
-at_three : (page leaf : PageValue) → three_blocks page leaf 3 ≡ Some page
-unfolding three_blocks
-at_three page leaf = refl
+at_top : (root : ℕ) (page leaf : PageValue) → two_kinds root page leaf root ≡ Some page
+unfolding two_kinds
+at_top root page leaf = ap (λ (b : Bool). cond b (Some page) (Some leaf)) (eq-eqb root root refl)
 
-at_four : (page leaf : PageValue) → three_blocks page leaf 4 ≡ Some leaf
-unfolding three_blocks
-at_four page leaf = refl
-
-at_five : (page leaf : PageValue) → three_blocks page leaf 5 ≡ Some leaf
-unfolding three_blocks
-at_five page leaf = refl
+at_leaf : (root : ℕ) (page leaf : PageValue) (n : ℕ) → nat_eq n root ≡ false → two_kinds root page leaf n ≡ Some leaf
+unfolding two_kinds
+at_leaf root page leaf n apart = ap (λ (b : Bool). cond b (Some page) (Some leaf)) apart
 
 abbrev two_below : PageValue → Tree
 two_below page = finite.insert (finite.insert (top_alone page) (0 ∷ []) []) (1 ∷ []) []
 
 -- which block is at a path
-abbrev where_is : List ℕ → Option ℕ
-where_is [] = Some 3
-where_is (zero ∷ []) = Some 4
-where_is (zero ∷ s ∷ p) = None
-where_is (suc zero ∷ []) = Some 5
-where_is (suc zero ∷ s ∷ p) = None
-where_is (suc (suc n) ∷ p) = None
+abbrev where_is : ℕ → ℕ → ℕ → List ℕ → Option ℕ
+where_is root first second [] = Some root
+where_is root first second (zero ∷ []) = Some first
+where_is root first second (zero ∷ s ∷ p) = None
+where_is root first second (suc zero ∷ []) = Some second
+where_is root first second (suc zero ∷ s ∷ p) = None
+where_is root first second (suc (suc n) ∷ p) = None
 
 first_of : List ℕ → ℕ
 first_of [] = 0
@@ -152,10 +149,10 @@ unfolding first_of
 other_first s p k q apart = false_if (same (s ∷ p) (k ∷ q)) (λ e. absurd (apart (ap first_of (same_is (s ∷ p) (k ∷ q) e))))
 
 -- which block a slot of `/` names
-abbrev named_in : ℕ → Option ℕ
-named_in zero = Some 4
-named_in (suc zero) = Some 5
-named_in (suc (suc n)) = None
+abbrev named_in : ℕ → ℕ → ℕ → Option ℕ
+named_in first second zero = Some first
+named_in first second (suc zero) = Some second
+named_in first second (suc (suc n)) = None
 
 -- the data at a path
 abbrev data_in : PageValue → List ℕ → Option (List ℕ)
@@ -167,31 +164,31 @@ data_in page (suc zero ∷ s ∷ p) = None
 data_in page (suc (suc n) ∷ p) = None
 
 -- .. and that block is there
-module _ (page leaf : PageValue) (names : NamesTwo 4 5 page) (is_leaf : IsLeaf leaf) where
-  slot_of_top : (s : ℕ) → slot_block page s ≡ named_in s
+module _ (root first second : ℕ) (page leaf : PageValue) (names : NamesTwo first second page) (is_leaf : IsLeaf leaf) (apart_first : nat_eq first root ≡ false) (apart_second : nat_eq second root ≡ false) where
+  slot_of_top : (s : ℕ) → slot_block page s ≡ named_in first second s
   slot_of_top s = ap (λ (rs : List ReferenceValue). option_and_then (λ (r : ReferenceValue). r.block) (slice_get rs s)) names.refs ∙ by s
     where
-      by : (n : ℕ) → option_and_then (λ (r : ReferenceValue). r.block) (slice_get (names.slot_0 ∷ names.slot_1 ∷ replicate 14 empty_reference) n) ≡ named_in n
+      by : (n : ℕ) → option_and_then (λ (r : ReferenceValue). r.block) (slice_get (names.slot_0 ∷ names.slot_1 ∷ replicate 14 empty_reference) n) ≡ named_in first second n
       by zero = names.first_is
       by (suc zero) = names.second_is
       by (suc (suc n)) = no_slot 14 n
 
-  leaf_below : (b : ℕ) → three_blocks page leaf b ≡ Some leaf → (s : ℕ) (p : List ℕ) → block_at (three_blocks page leaf) b (s ∷ p) ≡ None
+  leaf_below : (b : ℕ) → two_kinds root page leaf b ≡ Some leaf → (s : ℕ) (p : List ℕ) → block_at (two_kinds root page leaf) b (s ∷ p) ≡ None
   leaf_below b at s p =
-      ap (λ (o : Option PageValue). below (three_blocks page leaf) p (slot_in s o)) at
-      ∙ ap (below (three_blocks page leaf) p) (empty_slot leaf s is_leaf.refs)
+      ap (λ (o : Option PageValue). below (two_kinds root page leaf) p (slot_in s o)) at
+      ∙ ap (below (two_kinds root page leaf) p) (empty_slot leaf s is_leaf.refs)
 
-  from_top : (s : ℕ) (p : List ℕ) → block_at (three_blocks page leaf) 3 (s ∷ p) ≡ below (three_blocks page leaf) p (named_in s)
+  from_top : (s : ℕ) (p : List ℕ) → block_at (two_kinds root page leaf) root (s ∷ p) ≡ below (two_kinds root page leaf) p (named_in first second s)
   from_top s p =
-      ap (λ (o : Option PageValue). below (three_blocks page leaf) p (slot_in s o)) (at_three page leaf)
-      ∙ ap (below (three_blocks page leaf) p) (slot_of_top s)
+      ap (λ (o : Option PageValue). below (two_kinds root page leaf) p (slot_in s o)) (at_top root page leaf)
+      ∙ ap (below (two_kinds root page leaf) p) (slot_of_top s)
 
-  found : (p : List ℕ) → block_at (three_blocks page leaf) 3 p ≡ where_is p
+  found : (p : List ℕ) → block_at (two_kinds root page leaf) root p ≡ where_is root first second p
   found [] = refl
   found (zero ∷ []) = from_top 0 []
-  found (zero ∷ s ∷ p) = from_top 0 (s ∷ p) ∙ leaf_below 4 (at_four page leaf) s p
+  found (zero ∷ s ∷ p) = from_top 0 (s ∷ p) ∙ leaf_below first (at_leaf root page leaf first apart_first) s p
   found (suc zero ∷ []) = from_top 1 []
-  found (suc zero ∷ s ∷ p) = from_top 1 (s ∷ p) ∙ leaf_below 5 (at_five page leaf) s p
+  found (suc zero ∷ s ∷ p) = from_top 1 (s ∷ p) ∙ leaf_below second (at_leaf root page leaf second apart_second) s p
   found (suc (suc n) ∷ p) = from_top (suc (suc n)) p
 
   -- the data of the page at each path
@@ -213,32 +210,32 @@ module _ (page leaf : PageValue) (names : NamesTwo 4 5 page) (is_leaf : IsLeaf l
           ap (λ b. cond b (Some []) (cond (same (suc (suc n) ∷ q) (0 ∷ [])) (Some []) None)) (other_first (suc (suc n)) q 1 [] (omega arith))
           ∙ ap (λ b. cond b (Some []) None) (other_first (suc (suc n)) q 0 [] (omega arith))
 
-  holds_two : Holds (three_blocks page leaf) 3 (two_below page)
+  holds_two : Holds (two_kinds root page leaf) root (two_below page)
   holds_two = record {
     page = λ p b at. page_at p b (sym (found p) ∙ at);
     gone = λ p at. data_at p ∙ gone_at p (sym (found p) ∙ at);
   }
     where
-      page_at : (p : List ℕ) (b : ℕ) → where_is p ≡ Some b
-          → (x : PageValue) × (three_blocks page leaf b ≡ Some x) × (finite.get (two_below page) p ≡ Some x.bytes) × (x.level ≡ length p)
-      page_at [] b at = (page, ap (three_blocks page leaf) (sym (number_is 3 b at)) ∙ at_three page leaf, data_at [], names.level)
+      page_at : (p : List ℕ) (b : ℕ) → where_is root first second p ≡ Some b
+          → (x : PageValue) × (two_kinds root page leaf b ≡ Some x) × (finite.get (two_below page) p ≡ Some x.bytes) × (x.level ≡ length p)
+      page_at [] b at = (page, ap (two_kinds root page leaf) (sym (number_is root b at)) ∙ at_top root page leaf, data_at [], names.level)
       page_at (zero ∷ []) b at = (
         leaf,
-        ap (three_blocks page leaf) (sym (number_is 4 b at)) ∙ at_four page leaf,
+        ap (two_kinds root page leaf) (sym (number_is first b at)) ∙ at_leaf root page leaf first apart_first,
         data_at (0 ∷ []) ∙ ap (λ (bytes : List ℕ). Some bytes) (sym is_leaf.bytes),
         is_leaf.level,
       )
       page_at (zero ∷ s ∷ p) b at = absurd (cc)
       page_at (suc zero ∷ []) b at = (
         leaf,
-        ap (three_blocks page leaf) (sym (number_is 5 b at)) ∙ at_five page leaf,
+        ap (two_kinds root page leaf) (sym (number_is second b at)) ∙ at_leaf root page leaf second apart_second,
         data_at (1 ∷ []) ∙ ap (λ (bytes : List ℕ). Some bytes) (sym is_leaf.bytes),
         is_leaf.level,
       )
       page_at (suc zero ∷ s ∷ p) b at = absurd (cc)
       page_at (suc (suc n) ∷ p) b at = absurd (cc)
 
-      gone_at : (p : List ℕ) → where_is p ≡ None → data_in page p ≡ None
+      gone_at : (p : List ℕ) → where_is root first second p ≡ None → data_in page p ≡ None
       gone_at [] at = absurd (cc)
       gone_at (zero ∷ []) at = absurd (cc)
       gone_at (zero ∷ s ∷ p) at = refl
@@ -246,28 +243,22 @@ module _ (page leaf : PageValue) (names : NamesTwo 4 5 page) (is_leaf : IsLeaf l
       gone_at (suc zero ∷ s ∷ p) at = refl
       gone_at (suc (suc n) ∷ p) at = refl
 
-  begun : (d : View) → Begins d 3 page → IsUpdate 4 leaf d 0
-  begun d begins = record {
-    store = three_blocks page leaf;
-    root = 3;
+  pub begun_on_two : (d : View) (leaf_at : ℕ) → Begins d root page → nat_eq leaf_at root ≡ false → IsUpdate leaf_at leaf d 0
+  begun_on_two d leaf_at begins apart = record {
+    store = two_kinds root page leaf;
+    root = root;
     base = two_below page;
     steps = [];
-    stands = begins (three_blocks page leaf) (two_below page) holds_two (at_three page leaf);
+    stands = begins (two_kinds root page leaf) (two_below page) holds_two (at_top root page leaf);
     count_is = refl;
-    known = at_four page leaf;
+    known = at_leaf root page leaf leaf_at apart;
   }
-
-  pub begun_on_two : (d : View) (at leaf_at : ℕ) → Begins d at page → at ≡ 3 → leaf_at ≡ 4 → IsUpdate leaf_at leaf d 0
-  begun_on_two d at leaf_at begun_at three four =
-      let F : ℕ → Type 0 = λ n. Begins d n page in
-      let G : ℕ → Type 0 = λ n. IsUpdate n leaf d 0 in
-      subst G (sym four) (begun d (subst F three begun_at))
 
 -- a page `/` with two slots in use
 pub names_two : (page : PageValue) (refs : List ReferenceValue) (first second : ReferenceValue) → refs ≡ empty_slots → page.refs ≡ slice_set (slice_set refs 0 first) 1 second
-    → page.level ≡ 0 → first.block ≡ Some 4 → second.block ≡ Some 5 → NamesTwo 4 5 page
+    → page.level ≡ 0 → (m n : ℕ) → first.block ≡ Some m → second.block ≡ Some n → NamesTwo m n page
 unfolding empty_slots
-names_two page refs first second bare set level first_is second_is = record {
+names_two page refs first second bare set level m n first_is second_is = record {
   slot_0 = first;
   slot_1 = second;
   refs = set ∙ ap (λ (rs : List ReferenceValue). slice_set (slice_set rs 0 first) 1 second) bare;

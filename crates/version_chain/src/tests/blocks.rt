@@ -106,11 +106,12 @@ const MADE: [Expected; 3] = [
     },
 ];
 
-/// The version page that these blocks hold then.
-fn two_below(first: BlockNo, second: BlockNo) -> Option<VersionPage>
-    requires first { first ≡ 4 }
-    requires second { second ≡ 5 }
-    ensures { IfSome result (λ version. NamesTwo 4 5 version.page) }
+/// A version page of this serial with pages in these two blocks.
+fn two_below(serial: u64, first: BlockNo, second: BlockNo) -> Option<VersionPage>
+    requires serial { 0 < serial }
+    requires first { 0 < first }
+    requires second { 0 < second }
+    ensures names { IfSome result (λ version. NamesTwo first second version.page) }
 {
     let flags = Flags::of_code(9).ok()?;
     Some(VersionPage {
@@ -126,7 +127,7 @@ fn two_below(first: BlockNo, second: BlockNo) -> Option<VersionPage>
             },
         ),
         object: 1,
-        serial: 2,
+        serial,
         commit: None,
         base: Some(number(1)?),
         members: Members::none(),
@@ -135,9 +136,8 @@ fn two_below(first: BlockNo, second: BlockNo) -> Option<VersionPage>
 
 /// A page `/` with two slots in use.
 fn with_two(first: Reference, second: Reference) -> Page
-    requires first { first.block ≡ Some 4 }
-    requires second { second.block ≡ Some 5 }
-    ensures { NamesTwo 4 5 result }
+    ensures names { (m n : ℕ) → first.block ≡ Some m → second.block ≡ Some n → NamesTwo m n result }
+    ensures level { result.level ≡ 0 }
 {
     let mut page = Page::empty(0);
     page.refs[0] = first;
@@ -149,15 +149,32 @@ fn with_two(first: Reference, second: Reference) -> Page
 fn one_written(alloc: Global) -> Option<BoxDraft>
     ensures { IfSome result (λ d. IsOfUpdate (⟦<BoxDraft as Draft>⟧.view d)) }
 {
-    let root_at = number(3)?;
     let at = number(4)?;
-    let version = two_below(at, number(5)?)?;
+    let below_at = (at, number(5)?);
+    let version = two_below(2, below_at.0, below_at.1)?;
     let leaf = Page::empty(1);
     let step = Step::WriteAt {
         at: below(0)?,
         bytes: PageData::of(&[0xaa]),
     };
-    let mut draft = begun_on_two(alloc, root_at, &version, at, &leaf)?;
+    let mut draft = begun_on_two(alloc, number(3)?, &version, below_at, at, &leaf)?;
+    done(&mut draft, &step, at, &leaf)?;
+    Some(draft)
+}
+
+/// The version which that update makes, and an update that writes `bb` at `/1`.
+fn other_written(alloc: Global) -> Option<BoxDraft>
+    ensures { IfSome result (λ d. IsOfUpdate (⟦<BoxDraft as Draft>⟧.view d)) }
+{
+    let at = number(5)?;
+    let below_at = (number(7)?, at);
+    let version = two_below(3, below_at.0, below_at.1)?;
+    let leaf = Page::empty(1);
+    let step = Step::WriteAt {
+        at: below(1)?,
+        bytes: PageData::of(&[0xbb]),
+    };
+    let mut draft = begun_on_two(alloc, number(6)?, &version, below_at, at, &leaf)?;
     done(&mut draft, &step, at, &leaf)?;
     Some(draft)
 }
@@ -170,6 +187,17 @@ const WROTE: [Expected; 2] = [
     Expected {
         block: 6,
         text: "0:a55600027000000700000005 70:000000010000000000000003 86:00000003",
+    },
+];
+
+const OTHER_WROTE: [Expected; 2] = [
+    Expected {
+        block: 9,
+        text: "0:a5500100 68:0001 219:bb",
+    },
+    Expected {
+        block: 8,
+        text: "0:a55600020000000770000009 70:000000010000000000000004 86:00000006",
     },
 ];
 
@@ -220,6 +248,13 @@ fn writes_pages_that_were_made(rt: HostRuntime) -> Result<(), Fail> {
 fn shares_what_was_not_written(rt: HostRuntime) -> Result<(), Fail> {
     let draft = one_written(rt.alloc()).ok_or("draft")?;
     flushes(&rt, rt.alloc(), &draft, 5, 0, Members::none(), &WROTE).ok_or("flush")?;
+    Ok(())
+}
+
+#[test]
+fn shares_what_the_version_before_wrote(rt: HostRuntime) -> Result<(), Fail> {
+    let draft = other_written(rt.alloc()).ok_or("draft")?;
+    flushes(&rt, rt.alloc(), &draft, 7, 0, Members::none(), &OTHER_WROTE).ok_or("flush")?;
     Ok(())
 }
 

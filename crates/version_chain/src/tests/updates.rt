@@ -1,5 +1,5 @@
 //! Drafts on hand-made bases, and what they write.
-ghost use Rattle.std.specs.Prelude.{◌≡◌, ℕ, ◌+◌, ◌<◌, ◌≤◌, ◌^◌, IfOk, IfSome, OnSome};
+ghost use Rattle.std.specs.Prelude.{◌≡◌, ℕ, ◌+◌, ◌<◌, ◌≤◌, ◌^◌, IfOk, IfSome, OnSome, nat_eq, false};
 ghost use Rattle.block_map.specs.States.{held_count};
 ghost use Rattle.page_codec.specs.Values.{PageValue};
 ghost use Rattle.page_codec.specs.Blank.{empty_page};
@@ -46,17 +46,20 @@ pub fn begun(alloc: Global, at: BlockNo, version: &VersionPage, page: &Page) -> 
     }
 }
 
-/// A draft on the version in block 3, which has `/0` in block 4 and `/1` in block 5, both with this page.
+/// A draft on a version which has `/0` and `/1` in these two blocks, of which the page in one is known.
 pub fn begun_on_two(
     alloc: Global,
     at: BlockNo,
     version: &VersionPage,
+    below: (BlockNo, BlockNo),
     leaf_at: BlockNo,
     leaf: &Page,
 ) -> Option<BoxDraft>
-    requires block { at ≡ 3 }
-    requires names { NamesTwo 4 5 version.now.page }
-    requires leaf_block { leaf_at ≡ 4 }
+    requires named { 0 < at }
+    requires names { NamesTwo below.0 below.1 version.now.page }
+    requires first { nat_eq below.0 at ≡ false }
+    requires second { nat_eq below.1 at ≡ false }
+    requires known { nat_eq leaf_at at ≡ false }
     requires leaf { IsLeaf leaf.now }
     ensures update { IfSome result (λ d. IsUpdate leaf_at leaf.now (⟦<BoxDraft as Draft>⟧.view d) 0) }
     ensures fed { IfSome result (λ d. ⟦<BoxDraft as Draft>⟧.fed_of d ≡ 0) }
