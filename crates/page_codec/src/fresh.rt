@@ -13,7 +13,7 @@ use ref_flags::Flags;
 use std::alloc::{AllocError, Global};
 
 /// The version page of a new file, whose object is at least 1.
-fn new_version(object: u32) -> VersionPage
+pub fn new_version(object: u32) -> VersionPage
     requires { 1 ≤ object }
     ensures { result ≡ new_version object }
 {

@@ -8,3 +8,4 @@ pub mod ReadCauses
 pub mod VersionLaws
 pub mod PageWriting
 pub mod MendLaws
+pub mod ClosingLaws

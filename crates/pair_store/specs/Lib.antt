@@ -8,4 +8,5 @@ pub mod Edits
 pub mod Answers
 pub mod Found
 pub mod Mending
+pub mod Closing
 pub mod PairLaws

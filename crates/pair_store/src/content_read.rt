@@ -38,6 +38,7 @@ pub fn read_content<V: Drives>(
     ensures kept { V.tells → (k : ℕ) → IsSettled k (halves_seen V.seen drives.new) ↔ IsSettled k (halves_seen V.seen drives.old) }
     ensures kept_always { (k : ℕ) → IsSettledAlways V.may_leave drives.new (V.moment drives.new) k ↔ IsSettledAlways V.may_leave drives.old (V.moment drives.old) k }
     ensures images { Changes V.moment (ContentsLeft V.may_leave) drives.old drives.new SameContents }
+    ensures left { (h : Half) → LeavesSame (V.may_leave drives.old h (V.moment drives.old)) (V.may_leave drives.new h (V.moment drives.new)) }
     ensures size { V.size drives.new ≡ V.size drives.old }
     ensures later { (h : Half) → (V.faults drives.old h ≤ V.faults drives.new h) × (V.last_fault drives.old h ≤ V.last_fault drives.new h) }
 {

@@ -2,6 +2,7 @@
 #![tactic(auto)]
 
 mod both;
+mod close;
 mod content_read;
 mod content_write;
 mod fault;
@@ -16,6 +17,7 @@ mod store;
 mod version_edit;
 
 pub use both::write_both;
+pub use close::close_block;
 pub use fault::PairFault;
 pub use on_halves::Pair;
 pub use outcome::{Mended, Tas};

@@ -1,11 +1,13 @@
 // Two halves as a store of blocks.
-ghost use Rattle.std.specs.Prelude.{◌≡◌, ◌≢◌, ◌⊎◌, ◌↔◌, ℕ, ◌+◌, ◌-◌, ◌*◌, ◌^◌, ◌<◌, ◌≤◌, min, IfErr, OnOk};
+ghost use Rattle.std.specs.Prelude.{◌≡◌, ◌≢◌, ◌⊎◌, ◌↔◌, ℕ, ◌+◌, ◌-◌, ◌*◌, ◌^◌, ◌<◌, ◌≤◌, min, None, Some, IfErr, IsErrOf, OnOk};
 ghost use Rattle.drives.specs.declared.device.Half.{Half};
 ghost use Rattle.drives.specs.Changes.{Changes, IsAtRest, halves_seen};
 ghost use Rattle.drives.specs.Crash.{LeavesSame};
 ghost use Rattle.pair_store.specs.Blocks.{SameContents, SameOthers};
 ghost use Rattle.pair_store.specs.Content.{ContentsLeft, IsSettled, IsSettledAlways, content_of};
-ghost use Rattle.pair_store.specs.Faults.{IsStopped};
+ghost use Rattle.pair_store.specs.declared.fault.PairFault.{PairFault};
+ghost use Rattle.pair_store.specs.Answers.{IsReadFault};
+ghost use Rattle.pair_store.specs.Faults.{IsStopped, IsUnread};
 ghost use Rattle.pair_store.specs.Mending.{IsCopy, IsFaultOf, IsHalfFault, IsMended, WroteNothing};
 
 use crate::Block;
@@ -91,6 +93,27 @@ impl<V: Drives> Pair<V> {
         ensures size { V.size self.new.drives ≡ V.size self.old.drives }
     {
         mend_block(&mut self.drives, n.get())
+    }
+
+    /// Reads the content of a block while a store is mended. It does not count as an operation, and nothing becomes pending by it. After an
+    /// error the buffer holds anything.
+    pub fn look(&mut self, n: BlockNo, into: &mut Block) -> Result<(), PairFault>
+        requires { n < V.size self.old.drives }
+        ensures only { IfErr result (IsReadFault n) }
+        ensures given { V.tells → ⟦<Pair<V> as Blocks>⟧.settled self.old n → OnOk result (⟦<Pair<V> as Blocks>⟧.content self.old n ≡ Some into.new) }
+        ensures closed { V.tells → IsErrOf result (PairFault.BothClosed n) → ⟦<Pair<V> as Blocks>⟧.content self.old n ≡ None }
+        ensures unread { (h : Half) → IsErrOf result (PairFault.ReadFault h)
+            → IsUnread (V.faults self.old.drives) (V.faults self.new.drives) (V.last_fault self.new.drives) (V.moment self.new.drives)
+            (V.tells → ⟦<Pair<V> as Blocks>⟧.settled self.old n → ⟦<Pair<V> as Blocks>⟧.content self.old n ≡ None) h }
+        ensures contents { V.tells → SameContents (⟦<Pair<V> as Blocks>⟧.content self.old) (⟦<Pair<V> as Blocks>⟧.content self.new) }
+        ensures kept { V.tells → (k : ℕ) → ⟦<Pair<V> as Blocks>⟧.settled self.new k ↔ ⟦<Pair<V> as Blocks>⟧.settled self.old k }
+        ensures images { Changes ⟦<Pair<V> as Blocks>⟧.moment ⟦<Pair<V> as Blocks>⟧.may_leave self.old self.new SameContents }
+        ensures rest { V.tells → IsAtRest V.seen V.moment V.may_leave self.old.drives → IsAtRest V.seen V.moment V.may_leave self.new.drives }
+        ensures uncounted { self.new.operations ≡ self.old.operations }
+        ensures later { (h : Half) → (V.faults self.old.drives h ≤ V.faults self.new.drives h) × (V.last_fault self.old.drives h ≤ V.last_fault self.new.drives h) }
+        ensures size { V.size self.new.drives ≡ V.size self.old.drives }
+    {
+        read_content(&mut self.drives, n, into)
     }
 }
 

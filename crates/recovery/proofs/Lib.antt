@@ -1,12 +1,1 @@
-pub mod ReadOnly
-pub mod Passing
-pub mod Slots
-pub mod BeforeLaws
-pub mod Checks
-pub mod VersionWalk
-pub mod Lying
-pub mod ChainWalk
-pub mod ListWalk
-pub mod TopLists
-pub mod MemberWalk
-pub mod WholeWalk
+pub mod Mends

@@ -1,25 +1,6 @@
-//! Opening a store: which files its blocks hold, or why it is refused; which blocks are in use; and the links that a commit left to be set.
+//! Opening a store on two halves: mending its blocks, checking what they hold, and setting the links that a commit left outstanding.
 #![tactic(auto)]
 
-mod before;
-mod chain;
-mod checking;
-mod files;
-mod listed;
-mod pages;
-mod places;
-mod reading;
-mod refused;
-mod rows;
-mod survey;
-mod tops;
-mod version;
+mod mending;
 
-pub use chain::Chain;
-pub use checking::{Checked, check};
-pub use refused::CheckRefused;
-pub use tops::{Link, Top};
-pub use version::FoundVersion;
-
-#[cfg(test)]
-mod tests;
+pub use mending::mend_all;

@@ -77,11 +77,11 @@ entry_lawful files key object few low = of (nat_le object files) refl
         }
     of false is = (IsEntry-no_entries 1).0
 
-entries_lawful : (files key object n : ℕ) → files < 65536 → 1 ≤ object → AllByRecursion IsEntry (map (new_entry files key) (range_with_len object n))
+pub entries_lawful : (files key object n : ℕ) → files < 65536 → 1 ≤ object → AllByRecursion IsEntry (map (new_entry files key) (range_with_len object n))
 entries_lawful files key object zero few low = tt
 entries_lawful files key object (suc n) few low = (entry_lawful files key object few low, entries_lawful files key (object + 1) n few (omega arith))
 
-entries_count : (files key object n : ℕ) → length (map (new_entry files key) (range_with_len object n)) ≡ n
+pub entries_count : (files key object n : ℕ) → length (map (new_entry files key) (range_with_len object n)) ≡ n
 entries_count files key object zero = refl
 entries_count files key object (suc n) = ap (λ m. suc m) (entries_count files key (object + 1) n)
 

@@ -44,15 +44,16 @@ nothing_below : (c : Content) (count block : ℕ) (seen : List ℕ)
 unfolding pages_below empty_slots
 nothing_below c count block seen = slots_empty c count block 0 16 [] 6 seen
 
-first_read : (c : Content) (count object : ℕ) (seen : List ℕ) → 1 ≤ object → object < count → (IsIn seen object → ⊥)
+-- whatever block names it
+pub first_read : (c : Content) (count namer object : ℕ) (seen : List ℕ) → 1 ≤ object → object < count → (IsIn seen object → ⊥)
     → version_in_block c object ≡ Some (new_version object)
-    → chain_at (blocks_of c count) object 0 object seen ≡ Ok (made_of object (new_version object) [] ∷ [], object ∷ seen)
+    → chain_at (blocks_of c count) object namer object seen ≡ Ok (made_of object (new_version object) [] ∷ [], object ∷ seen)
 unfolding chain_at
-first_read c count object seen low high fresh is =
+first_read c count namer object seen low high fresh is =
     let b : Bytes (c object) (new_version object) = bytes_of (c object) (new_version object) is in
-    went_on (version_at (blocks_of c count) object 0 object None) (chain_from (blocks_of c count) object count) seen (made_of object (new_version object) []) (object ∷ seen)
+    went_on (version_at (blocks_of c count) object namer object None) (chain_from (blocks_of c count) object count) seen (made_of object (new_version object) []) (object ∷ seen)
     (Ok (made_of object (new_version object) [] ∷ [], object ∷ seen))
-    (version_made c count object 0 object None seen (object ∷ seen) b.bytes (new_version object) []
+    (version_made c count object namer object None seen (object ∷ seen) b.bytes (new_version object) []
     (both_true (nat_le 1 object) (nat_lt object count) (le-leb 1 object low) (lt-ltb object count high)) fresh b.holds b.reads (eq-eqb object object refl) tt refl
     (nothing_below c count object (object ∷ seen)))
     (chain_stops c count object count (made_of object (new_version object) []) (object ∷ seen) refl)
@@ -60,7 +61,7 @@ first_read c count object seen low high fresh is =
 -- ---- the files
 
 -- a file of a new store as it lies
-abbrev laid_file : ℕ → ℕ → ℕ → LaidFile
+abbrev pub laid_file : ℕ → ℕ → ℕ → LaidFile
 laid_file files key object =
     record { entry = new_entry files key object; versions = cond (nat_le object files) (made_of object (new_version object) [] ∷ []) [] }
 
@@ -88,7 +89,7 @@ one_read c blocks files key object seen room low past firsts = of (nat_le object
           places = object ∷ seen;
           runs =
               ap (λ (t : Bool). if_some (cond t ((let e : EntryValue = record { first = Some object; generation = 1; secret = secret_of key object 1 } in e)) no_entry).first (λ block. chain_at (blocks_of c blocks) object 0 block) seen) is
-              ∙ first_read c blocks object seen low high (λ h. let l : object < object = past object h in omega arith) (firsts object low small)
+              ∙ first_read c blocks 0 object seen low high (λ h. let l : object < object = past object h in omega arith) (firsts object low small)
               ∙ ap (λ (t : Bool). Ok (cond t (made_of object (new_version object) [] ∷ []) [], object ∷ seen)) (sym is);
           below = λ m h. elim (in_cons object m seen h) [ inl e ↦ omega arith | inr i ↦ let l : m < object = past m i in omega arith ];
         }
@@ -121,7 +122,7 @@ files_read c blocks files key object (suc n) seen room low past firsts =
 -- ---- the store
 
 -- none of them is a top
-no_tops : (files key first object n : ℕ) → tops_from first (map (laid_file files key) (range_with_len object n)) ≡ []
+pub no_tops : (files key first object n : ℕ) → tops_from first (map (laid_file files key) (range_with_len object n)) ≡ []
 no_tops files key first object zero = refl
 no_tops files key first object (suc n) = of (nat_le object files) (no_tops files key (suc first) (object + 1) n)
   where
@@ -131,7 +132,7 @@ no_tops files key first object (suc n) = of (nat_le object files) (no_tops files
     of false rest = rest
 
 -- what is found of them
-found_files : (files key object n : ℕ) → map file_in (map (laid_file files key) (range_with_len object n)) ≡ map (new_file files key) (range_with_len object n)
+pub found_files : (files key object n : ℕ) → map file_in (map (laid_file files key) (range_with_len object n)) ≡ map (new_file files key) (range_with_len object n)
 found_files files key object zero = refl
 found_files files key object (suc n) =
     of (nat_le object files) (found_files files key (object + 1) n)

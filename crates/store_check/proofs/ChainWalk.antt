@@ -1,0 +1,155 @@
+-- The walk along a chain of versions.
+use Rattle.std.proofs.Common.{◌≡◌, ◌-◌, ℕ, zero, suc, List, [], ◌∷◌, ◌++◌, length, Option, Some, None, option_map, Ok, Err, refl, sym, ap, ◌∙◌, arith, slice_get, length-append}
+use Rattle.draft_model.specs.Places.{Store}
+use Rattle.store_model.specs.Walk.{Blocks, Refused, and_then, bind, done, if_some}
+use Rattle.store_model.specs.Laid.{LaidVersion, last_laid}
+use Rattle.store_model.specs.Chains.{version_at, chain_from, chain_at}
+use Rattle.store_check.specs.declared.version.FoundVersion.{FoundVersion}
+use Rattle.store_check.specs.Before.{PagesLie}
+use Rattle.store_check.specs.Versions.{shown_of}
+use Rattle.store_check.specs.declared.chain.Chain.{Chain}
+use Rattle.store_check.specs.Files.{first_serial, AllLie, LikeVersions, chain_of}
+use Rattle.store_check.specs.Results.{Outcome}
+use Rattle.store_check.proofs.Passing.{prepended, prepended_nothing, prepended_twice}
+use Rattle.store_check.proofs.Lying.{all_append}
+
+-- the last one of versions to which one was added
+pub last_added : (earlier : List LaidVersion) (version : LaidVersion) → last_laid (earlier ++ version ∷ []) ≡ Some version
+last_added earlier version =
+    ap (λ (n : ℕ). slice_get (earlier ++ version ∷ []) n) (let e : length (earlier ++ version ∷ []) - 1 ≡ length earlier = Prim.omega (arith, length-append earlier (version ∷ [])) in e)
+    ∙ at_end earlier
+  where
+    at_end : (xs : List LaidVersion) → slice_get (xs ++ version ∷ []) (length xs) ≡ Some version
+    at_end [] = refl
+    at_end (x ∷ xs) = at_end xs
+
+pub first_kept : (earlier : List LaidVersion) (version next : LaidVersion) → first_serial ((earlier ++ version ∷ []) ++ next ∷ []) ≡ first_serial (earlier ++ version ∷ [])
+first_kept [] version next = refl
+first_kept (x ∷ xs) version next = refl
+
+module _ (blocks : Blocks) (object : ℕ) where
+  -- the last version in a chain
+  pub chain_ends : (most : ℕ) (version : LaidVersion) (places : List ℕ) → version.commit ≡ None → chain_from blocks object most version places ≡ Ok (version ∷ [], places)
+  unfolding chain_from bind if_some done
+  chain_ends zero version places none = refl
+  chain_ends (suc most) version places none =
+      ap (λ o. and_then (if_some o (λ n. bind (version_at blocks object version.block n (Some version)) (chain_from blocks object most)) places) (λ later. done (version ∷ later))) none
+
+  -- a chain of no more versions
+  pub chain_cut : (version : LaidVersion) (places : List ℕ) → chain_from blocks object 0 version places ≡ Ok (version ∷ [], places)
+  unfolding chain_from done
+  chain_cut version places = refl
+
+  pub chain_next : (most : ℕ) (version next : LaidVersion) (n : ℕ) (places after : List ℕ) → version.commit ≡ Some n
+      → version_at blocks object version.block n (Some version) places ≡ Ok (next, after)
+      → chain_from blocks object (suc most) version places ≡ prepended (version ∷ []) (chain_from blocks object most next after)
+  unfolding chain_from bind if_some done
+  chain_next most version next n places after some is =
+      ap (λ o. and_then (if_some o (λ n. bind (version_at blocks object version.block n (Some version)) (chain_from blocks object most)) places) (λ later. done (version ∷ later))) some
+      ∙ ap (λ r. and_then (and_then r (chain_from blocks object most)) (λ later. done (version ∷ later))) is
+      ∙ of (chain_from blocks object most next after)
+    where
+      of : (o : Outcome (List LaidVersion)) → and_then o (λ later s. Ok (version ∷ later, s)) ≡ prepended (version ∷ []) o
+      of (Ok p) = refl
+      of (Err e) = refl
+
+  pub chain_stops : (most : ℕ) (version : LaidVersion) (n : ℕ) (places : List ℕ) (e : Refused) → version.commit ≡ Some n
+      → version_at blocks object version.block n (Some version) places ≡ Err e
+      → chain_from blocks object (suc most) version places ≡ Err e
+  unfolding chain_from bind if_some done
+  chain_stops most version n places e some is =
+      ap (λ o. and_then (if_some o (λ n. bind (version_at blocks object version.block n (Some version)) (chain_from blocks object most)) places) (λ later. done (version ∷ later))) some
+      ∙ ap (λ r. and_then (and_then r (chain_from blocks object most)) (λ later. done (version ∷ later))) is
+
+  -- the walk along a chain has come to a version
+  pub record ChainSoFar (store : Store) (count : ℕ) (first : LaidVersion) (places : List ℕ) (most : ℕ) (last : FoundVersion) (seen : List ℕ) : Type 0 where
+    pub earlier : List LaidVersion
+    pub here : LaidVersion
+    pub kept : last ≡ shown_of here
+    pub begins : first_serial (earlier ++ here ∷ []) ≡ first.serial
+    pub lie : AllLie store count (earlier ++ here ∷ [])
+    pub lies : PagesLie store count here.block here.nodes
+    pub is : chain_from blocks object count first places ≡ prepended earlier (chain_from blocks object most here seen)
+
+  pub chain_begin : (store : Store) (count : ℕ) (first : LaidVersion) (places : List ℕ) (kept : FoundVersion) → kept ≡ shown_of first → PagesLie store count first.block first.nodes
+      → ChainSoFar store count first places count kept places
+  chain_begin store count first places kept is lies = record {
+    earlier = [];
+    here = first;
+    kept = is;
+    begins = refl;
+    lie = (lies, tt);
+    lies = lies;
+    is = sym (prepended_nothing (chain_from blocks object count first places));
+  }
+
+  module _ (store : Store) (count : ℕ) (first : LaidVersion) (places : List ℕ) (last : FoundVersion) (seen : List ℕ) where
+    -- it goes on to the next version
+    pub chain_on : (most left : ℕ) (n : ℕ) (next : LaidVersion) (kept : FoundVersion) (after : List ℕ) → most ≡ suc left → (far : ChainSoFar store count first places most last seen)
+        → last.commit ≡ Some n → kept ≡ shown_of next → PagesLie store count next.block next.nodes
+        → version_at blocks object far.here.block n (Some far.here) seen ≡ Ok (next, after) → ChainSoFar store count first places left kept after
+    chain_on most left n next kept after more far some is lies found = record {
+      earlier = far.earlier ++ far.here ∷ [];
+      here = next;
+      kept = is;
+      begins = first_kept far.earlier far.here next ∙ far.begins;
+      lie = all_append (λ version. PagesLie store count version.block version.nodes) (far.earlier ++ far.here ∷ []) (next ∷ []) far.lie (lies, tt);
+      lies = lies;
+      is = far.is ∙ ap (λ (m : ℕ). prepended far.earlier (chain_from blocks object m far.here seen)) more
+          ∙ ap (prepended far.earlier) (chain_next left far.here next n seen after (sym (ap (λ v. v.commit) far.kept) ∙ some) found)
+          ∙ prepended_twice far.earlier (far.here ∷ []) (chain_from blocks object left next after);
+    }
+
+    pub chain_refused : (most left : ℕ) (n : ℕ) (e : Refused) → most ≡ suc left → (far : ChainSoFar store count first places most last seen)
+        → last.commit ≡ Some n → version_at blocks object far.here.block n (Some far.here) seen ≡ Err e → chain_from blocks object count first places ≡ Err e
+    chain_refused most left n e more far some stopped =
+        far.is ∙ ap (λ (m : ℕ). prepended far.earlier (chain_from blocks object m far.here seen)) more
+        ∙ ap (prepended far.earlier) (chain_stops left far.here n seen e (sym (ap (λ v. v.commit) far.kept) ∙ some) stopped)
+
+    like_far : (most : ℕ) (far : ChainSoFar store count first places most last seen) → LikeVersions store count first.serial last (far.earlier ++ far.here ∷ [])
+    like_far most far = record {
+      is = ap Some far.kept ∙ sym (ap (option_map shown_of) (last_added far.earlier far.here));
+      begins = far.begins;
+      lie = far.lie;
+    }
+
+    -- it comes to its end
+    pub chain_done : (most : ℕ) → ChainSoFar store count first places most last seen → last.commit ≡ None
+        → (versions : List LaidVersion) × LikeVersions store count first.serial last versions × (chain_from blocks object count first places ≡ Ok (versions, seen))
+    chain_done most far none = (
+      far.earlier ++ far.here ∷ [],
+      like_far most far,
+      far.is ∙ ap (prepended far.earlier) (chain_ends most far.here seen (sym (ap (λ v. v.commit) far.kept) ∙ none)),
+    )
+
+    pub chain_spent : (most : ℕ) → most ≡ 0 → ChainSoFar store count first places most last seen
+        → (versions : List LaidVersion) × LikeVersions store count first.serial last versions × (chain_from blocks object count first places ≡ Ok (versions, seen))
+    chain_spent most zero_left far = (
+      far.earlier ++ far.here ∷ [],
+      like_far most far,
+      far.is ∙ ap (λ (m : ℕ). prepended far.earlier (chain_from blocks object m far.here seen)) zero_left ∙ ap (prepended far.earlier) (chain_cut far.here seen),
+    )
+
+-- the whole chain, from its first version
+module _ (blocks : Blocks) (object namer n : ℕ) (places : List ℕ) where
+  pub first_stops : (e : Refused) → version_at blocks object namer n None places ≡ Err e → chain_at blocks object namer n places ≡ Err e
+  unfolding chain_at bind
+  first_stops e is = ap (λ r. and_then r (chain_from blocks object blocks.count)) is
+
+  pub chain_is : (first : LaidVersion) (between : List ℕ) → version_at blocks object namer n None places ≡ Ok (first, between)
+      → chain_at blocks object namer n places ≡ chain_from blocks object blocks.count first between
+  unfolding chain_at bind
+  chain_is first between is = ap (λ r. and_then r (chain_from blocks object blocks.count)) is
+
+-- what is kept of a chain whose last version is kept
+pub chain_kept : (store : Store) (count serial : ℕ) (last : FoundVersion) (versions : List LaidVersion) → LikeVersions store count serial last versions
+    → Some (let chain : Chain = record { last = last; first = serial } in chain) ≡ chain_of versions
+chain_kept store count serial last versions like = of (last_laid versions) like.is
+  where
+    of : (o : Option LaidVersion) → Some last ≡ option_map shown_of o
+        → Some (let chain : Chain = record { last = last; first = serial } in chain) ≡ option_map (λ v. record { last = shown_of v; first = first_serial versions }) o
+    of None e = absurd cc
+    of (Some v) e =
+        let same : last ≡ shown_of v = cc in
+        ap (λ (w : FoundVersion). Some (let chain : Chain = record { last = w; first = serial } in chain)) same
+        ∙ ap (λ (k : ℕ). Some (let chain : Chain = record { last = shown_of v; first = k } in chain)) (sym like.begins)

@@ -1,0 +1,11 @@
+pub mod Listed
+pub mod Marks
+pub mod Since
+pub mod Surveyed
+pub mod Results
+pub mod Before
+pub mod Versions
+pub mod Rows
+pub mod Files
+pub mod Tops
+pub mod Checked

@@ -1,0 +1,98 @@
+// The versions of a file, each one named by the commit reference of the one before.
+ghost use Rattle.std.specs.Prelude.{◌≡◌, ℕ, List, Some, IsErrOf, Option};
+ghost use Rattle.drives.specs.declared.device.Half.{Half};
+ghost use Rattle.store_model.specs.Laid.{LaidVersion};
+ghost use Rattle.store_model.specs.Laws.{pages_of};
+ghost use Rattle.store_model.specs.Chains.{chain_at, chain_from, version_at};
+ghost use Rattle.store_check.specs.Before.{PagesLie};
+ghost use Rattle.store_check.specs.Versions.{shown_of};
+ghost use Rattle.store_check.specs.Since.{IsUnreadSince};
+ghost use Rattle.store_check.specs.Surveyed.{IsTold, blocks_in};
+ghost use Rattle.store_check.specs.declared.refused.CheckRefused.{CheckRefused};
+ghost use Rattle.store_check.specs.Results.{Shows};
+ghost use Rattle.store_check.specs.Files.{AllLie, LikeVersions, chain_of};
+
+use crate::refused::CheckRefused;
+use crate::survey::Survey;
+use crate::version::{FoundVersion, Prior, version_at};
+use afs_base::BlockNo;
+use pair_store::Blocks;
+
+/// What is kept of a file: its last version, and the serial of its first one.
+#[derive(Debug, Drop)]
+pub struct Chain {
+    pub last: FoundVersion,
+    pub first: u64,
+}
+
+/// The next version of a file, in block `n`.
+fn next_at<B: Blocks>(
+    survey: &mut Survey<B>,
+    object: u32,
+    last: &FoundVersion,
+    n: BlockNo,
+) -> Result<FoundVersion, CheckRefused>
+    ensures began { survey.new.began ≡ survey.old.began }
+    ensures count { survey.new.count ≡ survey.old.count }
+    ensures walk { IsTold B.tells B.settled survey.old → (laid : LaidVersion)
+        → PagesLie (pages_of (B.content survey.old.began)) survey.old.count laid.block laid.nodes → last.now ≡ shown_of laid
+        → Shows (λ version (found : LaidVersion). (version ≡ shown_of found) × PagesLie (pages_of (B.content survey.old.began)) survey.old.count found.block found.nodes) result
+        (version_at (blocks_in B.content survey.old) object laid.block n (Some laid) survey.old.list) survey.new.list }
+    ensures unread { (h : Half) → IsErrOf result (CheckRefused.ReadFault h)
+        → IsUnreadSince B.tells B.moment B.content B.settled B.faults B.last_fault survey.new.began survey.new.store h }
+{
+    let before = Some(Prior {
+        serial: last.serial,
+        block: last.block,
+    });
+    version_at(survey, object, last.block, n, &before)
+}
+
+/// The last version of a chain, along the commit references from this version on.
+fn last_from<B: Blocks>(
+    survey: &mut Survey<B>,
+    object: u32,
+    first: FoundVersion,
+) -> Result<FoundVersion, CheckRefused>
+    ensures began { survey.new.began ≡ survey.old.began }
+    ensures count { survey.new.count ≡ survey.old.count }
+    ensures walk { IsTold B.tells B.settled survey.old → (laid : LaidVersion)
+        → PagesLie (pages_of (B.content survey.old.began)) survey.old.count laid.block laid.nodes → first ≡ shown_of laid
+        → Shows (LikeVersions (pages_of (B.content survey.old.began)) survey.old.count laid.serial) result
+        (chain_from (blocks_in B.content survey.old) object survey.old.count laid survey.old.list) survey.new.list }
+    ensures unread { (h : Half) → IsErrOf result (CheckRefused.ReadFault h)
+        → IsUnreadSince B.tells B.moment B.content B.settled B.faults B.last_fault survey.new.began survey.new.store h }
+{
+    let mut last = first;
+    'versions: for _step in 0..survey.count() {
+        match last.commit {
+            None => return Ok(last),
+            Some(n) => last = next_at(survey, object, &last, n)?,
+        }
+    }
+    Ok(last)
+}
+
+/// The whole chain of the file whose first version is in block `n`.
+pub fn chain_at<B: Blocks>(
+    survey: &mut Survey<B>,
+    object: u32,
+    namer: BlockNo,
+    n: BlockNo,
+) -> Result<Chain, CheckRefused>
+    ensures began { survey.new.began ≡ survey.old.began }
+    ensures count { survey.new.count ≡ survey.old.count }
+    ensures walk { IsTold B.tells B.settled survey.old
+        → Shows (λ chain (versions : List LaidVersion). (Some chain ≡ chain_of versions) × AllLie (pages_of (B.content survey.old.began)) survey.old.count versions) result
+        (chain_at (blocks_in B.content survey.old) object namer n survey.old.list) survey.new.list }
+    ensures unread { (h : Half) → IsErrOf result (CheckRefused.ReadFault h)
+        → IsUnreadSince B.tells B.moment B.content B.settled B.faults B.last_fault survey.new.began survey.new.store h }
+{
+    let first = version_at(survey, object, namer, n, &None)?;
+    let serial = first.serial;
+    let last = last_from(survey, object, first)?;
+    Ok(Chain {
+        last,
+        first: serial,
+    })
+}

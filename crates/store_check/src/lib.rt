@@ -1,0 +1,26 @@
+//! The check of a store: which files its blocks hold, or why it is refused, and which blocks are in use.
+#![tactic(auto)]
+
+mod before;
+mod chain;
+mod checking;
+mod files;
+mod listed;
+mod pages;
+mod places;
+mod reading;
+mod refused;
+mod rows;
+mod survey;
+mod tops;
+mod version;
+
+pub use chain::Chain;
+pub use checking::{Checked, check};
+pub use refused::CheckRefused;
+pub use rows::root_block;
+pub use tops::{Link, Top};
+pub use version::FoundVersion;
+
+#[cfg(test)]
+mod tests;
