@@ -14,16 +14,16 @@ use Rattle.store_check.proofs.MemberWalk.{equal_test, other_test, linked_already
 use Rattle.store_check.proofs.tops.link_version.Goals as goal
 
 pub returns-then-get-clause-walk : goal.returns-then-get-clause-walk
-returns-then-get-clause-walk g c = λ told laid files like last prior.
+returns-then-get-clause-walk g c = λ told laid files like few last prior.
     let s = c.args.survey.now in
     let same : laid.block ≡ c.args.n = ap (λ p. p.block) (sym prior) ∙ sym c.get.ensures.value ∙ c.if-get.true ∙ c.get-2.ensures.value in (
       files,
-      like,
+      (like, few),
       linked_already (blocks_in g.B.Blocks.content s) c.args.namer (record { object = c.args.object; block = c.args.n }) laid files s.list (equal_test laid.block c.args.n same),
     )
 
 pub returns-in_err-last-clause-walk : goal.returns-in_err-last-clause-walk
-returns-in_err-last-clause-walk g c = λ told laid files like last prior.
+returns-in_err-last-clause-walk g c = λ told laid files like few last prior.
     let b = g.B.Blocks in
     let s = c.args.survey.now in
     let S = pages_of (b.content s.began) in
@@ -31,14 +31,14 @@ returns-in_err-last-clause-walk g c = λ told laid files like last prior.
     let stop = c.in_err-last.field-0.0 in
     let p = err_from_is_err_and c.from_residual.result c.from_residual.ensures.1 in
     let apart : (laid.block == c.args.n) ≡ false = other_test laid.block c.args.n (λ same. c.if-get.false (c.get.ensures.value ∙ ap (λ p. p.block) prior ∙ same ∙ sym c.get-2.ensures.value)) in
-    shows_exit (λ _ (found : List LaidFile). LikeFiles S s.count c.args.linked.now.chains.items found) c.from_residual.result stop
+    shows_exit (λ _ (found : List LaidFile). LikeFiles S s.count c.args.linked.now.chains.items found × (kept_in found ≤ length c.tried_member.new.survey.list)) c.from_residual.result stop
     (version_linked (blocks_in b.content s) c.args.namer member laid files s.list) c.tried_member.new.survey.list (p.1 ∙ ap Err p.2)
     (stops_on stop (tried_at (blocks_in b.content s) c.args.object c.args.namer c.args.n laid s.list) _
     (c.in_err-last.ensures.walk told laid (last_lies S s.count c.args.object files laid like.lie last) (ap Some prior))
     (λ cause is. linked_stops (blocks_in b.content s) c.args.namer member laid files s.list apart cause is))
 
 pub returns-clause-walk : goal.returns-clause-walk
-returns-clause-walk g c = λ told laid files like last prior.
+returns-clause-walk g c = λ told laid files like few last prior.
     let b = g.B.Blocks in
     let s = c.args.survey.now in
     let S = pages_of (b.content s.began) in
