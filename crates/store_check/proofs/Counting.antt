@@ -69,11 +69,16 @@ places_are_counted content most store places e =
     let none : p.places ≡ [] = (root_gives content most [] p.places p.value p.first).3 in
     walk_counted content p.value store places (subst (λ (ns : List ℕ). walk_from (blocks_of content p.value.blocks) p.value ns ≡ Ok (store, places)) none p.second)
 
+-- what a walk over a store shows
+abbrev pub StoreShown : Content → ℕ → RootValue → List ℕ → Result Found CheckRefused → List ℕ → Type 0
+StoreShown content count root places found after =
+    Shows (λ (found : Found) (store : LaidStore). LikeTable found.table store × (found.linked.chains.items ≡ chains_of store.files) × (store.root ≡ root)) found
+    (walk_from (blocks_of content count) root places) after
+
 -- the answer to a walk that ended so
 pub ended_answers : (content : Content) (root : RootValue) (found : Result Found CheckRefused) (count : ℕ) (places : List ℕ) (result : Result Checked CheckRefused) → count ≡ root.blocks
     → IsEnded found count places result
-    → Shows (λ (found : Found) (store : LaidStore). LikeTable found.table store × (found.linked.chains.items ≡ chains_of store.files) × (store.root ≡ root)) found
-    (walk_from (blocks_of content root.blocks) root []) places
+    → StoreShown content root.blocks root [] found places
     → Answers result (walk_from (blocks_of content root.blocks) root [])
 ended_answers content root (Ok found) count places (Ok checked) size ended (store, (table, heads, root_is), is) =
     let total = (adds_walk (blocks_of content root.blocks) root).runs [] store places is in

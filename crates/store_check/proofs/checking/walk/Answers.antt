@@ -1,4 +1,4 @@
-use Rattle.std.proofs.Common.{◌≡◌, List, Ok, Err, ap, subst, ◌∙◌, length, map, arith, []}
+use Rattle.std.proofs.Common.{◌≡◌, ◌≤◌, List, Ok, Err, ap, subst, ◌∙◌, length, map, arith, []}
 use Rattle.std.proofs.lemmas.Result.{err_from_is_err_and}
 use Rattle.store_model.specs.Laid.{LaidFile}
 use Rattle.store_model.specs.Laws.{pages_of}
