@@ -1,24 +1,24 @@
 -- How many places a walk adds, and that they are none twice: of a version its own pages, of a table its parts.
-use Rattle.std.proofs.Common.{◌≡◌, ◌==◌, ◌&&◌, ◌||◌, ◌+◌, ◌-◌, ◌<◌, ◌≤◌, nat_eq, nat_le, nat_lt, ℕ, zero, suc, Bool, true, false, cond, not, List, [], ◌∷◌, ◌++◌, length, filter, map, replicate, Option, Some, None, option_map, Result, Ok, Err, refl, sym, ap, subst, ◌∙◌, arith, slice_get, length-append, add-one}
-use Rattle.std.specs.List.{AllByRecursion, IsDistinct, count_by, list_any, sum_by}
+use Rattle.std.proofs.Common.{◌≡◌, ◌==◌, ◌&&◌, ◌||◌, ◌+◌, ◌-◌, nat_eq, nat_le, nat_lt, ℕ, zero, suc, Bool, true, false, cond, List, [], ◌∷◌, ◌++◌, length, filter, map, replicate, Option, Some, None, option_map, Result, Ok, Err, refl, sym, ap, ◌∙◌, arith, slice_get, length-append, add-one}
+use Rattle.std.specs.List.{count_by, list_any}
 use Rattle.std.specs.Option.{is_none, is_some, option_and_then}
 use Rattle.std.proofs.lemmas.List.Elements.{filter-append}
 use Rattle.std.proofs.lemmas.List.Sums.{sum_by-cons, sum_by_push}
 use Rattle.afs_base.specs.Path.{is_prefix}
 use Rattle.page_codec.specs.declared.why.Why.{Why}
-use Rattle.page_codec.specs.declared.why.Why.TheVariants.{Closed, Level, Reference, Seen, Object, Serial, Base, Code, Member, Blocks as TooMany}
+use Rattle.page_codec.specs.declared.why.Why.TheVariants.{Closed, Level, Reference, Seen, Object, Serial, Base, Code, Member}
 use Rattle.page_codec.specs.Values.{ReferenceValue, VersionValue, MemberValue, RootValue}
 use Rattle.page_codec.specs.Blank.{no_entry}
 use Rattle.page_codec.specs.Causes.{page_of, version_of}
-use Rattle.page_codec.specs.TableReading.{part_of, root_of}
-use Rattle.store_model.specs.Walk.{Blocks, Walk, Refused, and_then, bind, done, refuse, check, decoded, content_at, if_some, is_new, add, place}
+use Rattle.page_codec.specs.TableReading.{part_of}
+use Rattle.store_model.specs.Walk.{Blocks, Walk, bind, done, refuse, check, decoded, content_at, if_some, is_new, add, place}
 use Rattle.store_model.specs.Laid.{Node, LaidVersion, LaidFile, last_laid, is_block, as_shared, shared_from, lies_at}
 use Rattle.store_model.specs.Pages.{page_at, own_node, Below, own_from, named_from, slot_from, slots_from, pages_below}
-use Rattle.store_model.specs.Chains.{follows, has_no_members, root_node, version_at, chain_from, chain_at}
+use Rattle.store_model.specs.Chains.{follows, has_no_members, version_at, chain_from, chain_at}
 use Rattle.store_model.specs.Tables.{Row, rows_in, part_rows, parts_from, table_rows, files_from}
 use Rattle.store_model.specs.Members.{Top, Linked, names_none, tops_from, last_in, longer, with_version_at, version_linked, member_linked, members_linked, tops_linked}
 use Rattle.store_model.specs.Found.{LaidStore}
-use Rattle.store_model.proofs.Steps.{Passed, passed, ok≢err, same_value, same_places, Took, took}
+use Rattle.store_model.proofs.Steps.{Passed, passed, ok≢err, same_value, same_places}
 use Rattle.store_check.specs.Files.{own_pages, kept_by}
 use Rattle.store_check.specs.Counts.{parts_in, kept_in}
 use Rattle.store_check.specs.Checked.{walk_from}

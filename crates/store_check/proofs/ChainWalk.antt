@@ -1,17 +1,21 @@
 -- The walk along a chain of versions.
 use Rattle.std.proofs.Common.{◌≡◌, ◌-◌, ℕ, zero, suc, cond, List, [], ◌∷◌, ◌++◌, length, Option, Some, None, option_map, Ok, Err, refl, sym, ap, ◌∙◌, arith, slice_get, length-append}
+use Rattle.std.specs.List.{sum_by}
 use Rattle.std.specs.Option.{is_none}
+use Rattle.std.proofs.lemmas.List.Sums.{sum_by-cons}
 use Rattle.draft_model.specs.Places.{Store}
 use Rattle.store_model.specs.Walk.{Blocks, Refused, and_then, bind, done, if_some}
-use Rattle.store_model.specs.Laid.{LaidVersion, last_laid}
+use Rattle.store_model.specs.Laid.{LaidVersion, LaidFile, last_laid}
 use Rattle.store_model.specs.Chains.{version_at, chain_from, chain_at}
 use Rattle.store_check.specs.declared.version.FoundVersion.{FoundVersion}
 use Rattle.store_check.specs.Before.{PagesLie}
 use Rattle.store_check.specs.Versions.{shown_of}
 use Rattle.store_check.specs.declared.chain.Chain.{Chain}
-use Rattle.store_check.specs.Files.{first_serial, unset_base, kept_by, AllLie, LikeVersions, chain_of}
+use Rattle.store_check.specs.Files.{first_serial, unset_base, kept_by, AllLie, LikeVersions, chain_of, chains_of}
+use Rattle.store_check.specs.Counts.{kept_in, kept_of}
 use Rattle.store_check.specs.Tops.{unset_of}
 use Rattle.store_check.specs.Results.{Outcome}
+use Rattle.store_check.proofs.Adding.{kept_first}
 use Rattle.store_check.proofs.Passing.{prepended, prepended_nothing, prepended_twice}
 use Rattle.store_check.proofs.Lying.{all_append}
 
@@ -31,6 +35,24 @@ first_kept (x ∷ xs) version next = refl
 
 last_cons : (x y : LaidVersion) (ys : List LaidVersion) → last_laid (x ∷ y ∷ ys) ≡ last_laid (y ∷ ys)
 last_cons x y ys = ap (λ (n : ℕ). slice_get (x ∷ y ∷ ys) n) (let e : length (x ∷ y ∷ ys) - 1 ≡ suc (length (y ∷ ys) - 1) = Prim.omega arith in e)
+
+ends : (x : LaidVersion) (xs : List LaidVersion) → (v : LaidVersion) × (last_laid (x ∷ xs) ≡ Some v)
+ends x [] = (x, refl)
+ends x (y ∷ ys) = let e = ends y ys in (e.0, last_cons x y ys ∙ e.1)
+
+kept_chain : (versions : List LaidVersion) → kept_of (chain_of versions) ≡ kept_by versions
+kept_chain [] = refl
+kept_chain (x ∷ xs) =
+    let first : ℕ = first_serial (x ∷ xs) in
+    let unset : Option ℕ = unset_base (x ∷ xs) in
+    let kept : ℕ = kept_by (x ∷ xs) in
+    ap (λ o. kept_of (option_map (λ last. (let chain : Chain = record { last = shown_of last; first = first; unset = unset; kept = kept } in chain)) o)) (ends x xs).1
+
+-- the blocks that are kept of all objects are those that the files hold
+pub kept_heads : (files : List LaidFile) → sum_by kept_of (chains_of files) ≡ kept_in files
+kept_heads [] = refl
+kept_heads (file ∷ others) =
+    Prim.omega (arith, kept_heads others, kept_chain file.versions, sum_by-cons kept_of (chain_of file.versions) (chains_of others), kept_first file others)
 
 -- of versions to which one was added, the last one before is the last but one now
 pub unset_added : (versions : List LaidVersion) (last version : LaidVersion) → last_laid versions ≡ Some last → unset_base (versions ++ version ∷ []) ≡ unset_of (shown_of last)

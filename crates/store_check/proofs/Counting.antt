@@ -1,15 +1,15 @@
 -- The places of a store that is found: how many there are, that none is there twice, and where each is.
-use Rattle.std.proofs.Common.{◌≡◌, ◌+◌, ◌<◌, ◌≤◌, ℕ, Bool, true, false, ◌||◌, nat_eq, List, [], ◌∷◌, ◌++◌, length, Result, Ok, Err, refl, sym, ap, subst, ◌∙◌, arith, append-nil}
+use Rattle.std.proofs.Common.{◌≡◌, ℕ, Bool, true, false, ◌||◌, nat_eq, List, [], ◌∷◌, Result, Ok, Err, refl, sym, ap, subst, ◌∙◌, arith, append-nil}
 use Rattle.std.specs.List.{AllByRecursion, IsDistinct, list_any}
 use Rattle.page_codec.specs.Values.{RootValue, TableValue}
-use Rattle.store_model.specs.Walk.{Blocks, and_then, bind}
+use Rattle.store_model.specs.Walk.{Blocks}
 use Rattle.store_model.specs.Members.{tops_from}
-use Rattle.store_model.specs.Found.{LaidStore, laid}
-use Rattle.store_model.proofs.PlaceLists.{IsIn, Distinct, in_head, in_tail, not_in}
+use Rattle.store_model.specs.Found.{LaidStore}
+use Rattle.store_model.proofs.PlaceLists.{IsIn, Distinct, in_head, in_tail}
 use Rattle.store_model.proofs.Steps.{Content, blocks_of, InRange, Ran, Framed, Passed, passed, framed_bind, framed_done}
 use Rattle.store_model.proofs.Locality.{framed_rows, framed_files, framed_tops}
 use Rattle.store_model.proofs.Giving.{Gives, gives_bind, gives_done, gives_any}
-use Rattle.store_check.specs.Counts.{parts_in, kept_in, IsPlace, AreCounted, PlacesAreCounted}
+use Rattle.store_check.specs.Counts.{IsPlace, AreCounted, PlacesAreCounted}
 use Rattle.store_check.specs.declared.refused.CheckRefused.{CheckRefused}
 use Rattle.store_check.specs.declared.checking.Checked.{Checked}
 use Rattle.store_check.specs.declared.checking.Found.{Found}
