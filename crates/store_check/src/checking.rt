@@ -10,6 +10,7 @@ ghost use Rattle.store_check.specs.Surveyed.{IsTold, blocks_in};
 ghost use Rattle.store_check.specs.declared.refused.CheckRefused.{CheckRefused};
 ghost use Rattle.store_check.specs.Results.{Shows, Walks};
 ghost use Rattle.store_check.specs.Files.{LikeFiles, chains_of};
+ghost use Rattle.store_check.specs.Counts.{kept_in};
 ghost use Rattle.store_check.specs.Checked.{Answers, IsEnded, IsMended, LikeTable, root_from, walk_from};
 
 use crate::chain::Chain;
@@ -19,21 +20,18 @@ use crate::reading::Reading;
 use crate::refused::CheckRefused;
 use crate::rows::{Row, root_block, table_rows};
 use crate::survey::Survey;
-use crate::tops::{Link, Linked, Top, link_tops, tops_of};
+use crate::tops::{Linked, link_tops, tops_of};
 use block_map::BlockMap;
 use page_codec::{Table, TableRoot, Why, decode_root};
 use pair_store::Blocks;
 use std::alloc::{AllocError, Global};
 
-/// A lawful store: its table, which blocks are in use, the last version of each object where it is live, the links that
-/// are to be set, and the versions that name members. No clause speaks of the last two yet; tests do.
+/// A lawful store: its table, which blocks are in use, and what is kept of the file of each object where it is live.
 #[derive(Drop)]
 pub struct Checked {
     pub table: Table,
     pub map: BlockMap,
     pub heads: Vec<Option<Chain>>,
-    pub links: Vec<Link>,
-    pub tops: Vec<Top>,
 }
 
 /// Block 0 of a store on halves of so many blocks.
@@ -97,12 +95,11 @@ fn table_of(alloc: Global, root: &TableRoot, rows: &[Row]) -> Result<Table, Allo
     Ok(table)
 }
 
-/// What a walk found: the table, the files, the links that are to be set, and the tops.
+/// What a walk found: the table, and the files.
 #[derive(Drop)]
 struct Found {
     table: Table,
     linked: Linked,
-    tops: Vec<Top>,
 }
 
 /// No object was named yet.
@@ -123,7 +120,7 @@ fn link_files<B: Blocks>(
     ensures began { survey.new.began ≡ survey.old.began }
     ensures count { survey.new.count ≡ survey.old.count }
     ensures walk { IsTold B.tells B.settled survey.old → (files : List LaidFile)
-        → LikeFiles (pages_of (B.content survey.old.began)) survey.old.count chains.items files
+        → LikeFiles (pages_of (B.content survey.old.began)) survey.old.count chains.items files → kept_in files ≤ length survey.old.list
         → Shows (λ found (linked : ModelLinked). (found.table ≡ table) × (found.linked.chains.items ≡ chains_of linked.files)) result
         (tops_linked (blocks_in B.content survey.old) (tops_from 1 files) (record { files = files; named = [] }) survey.old.list) survey.new.list }
     ensures unread { (h : Half) → IsErrOf result (CheckRefused.ReadFault h)
@@ -131,17 +128,9 @@ fn link_files<B: Blocks>(
 {
     let tops = tops_of(alloc, chains.as_slice())?;
     let named = none_named(alloc, chains.len())?;
-    let mut linked = Linked {
-        chains,
-        named,
-        links: Vec::new(alloc),
-    };
+    let mut linked = Linked { chains, named };
     link_tops(survey, tops.as_slice(), &mut linked)?;
-    Ok(Found {
-        table,
-        linked,
-        tops,
-    })
+    Ok(Found { table, linked })
 }
 
 /// The walk over a store, from its block 0 on.
@@ -170,22 +159,12 @@ fn checked_of(found: Found, map: BlockMap) -> Checked
     ensures map { result.map ≡ map }
     ensures heads { result.heads ≡ found.linked.chains }
 {
-    let Found {
-        table,
-        linked,
-        tops,
-    } = found;
-    let Linked {
-        chains,
-        named: _,
-        links,
-    } = linked;
+    let Found { table, linked } = found;
+    let Linked { chains, named: _ } = linked;
     Checked {
         table,
         map,
         heads: chains,
-        links,
-        tops,
     }
 }
 

@@ -4,6 +4,7 @@
 mod before;
 mod chain;
 mod checking;
+mod counts;
 mod files;
 mod listed;
 mod pages;
@@ -17,9 +18,9 @@ mod version;
 
 pub use chain::Chain;
 pub use checking::{Checked, check};
+pub use counts::places_are_counted;
 pub use refused::CheckRefused;
 pub use rows::root_block;
-pub use tops::{Link, Top};
 pub use version::FoundVersion;
 
 #[cfg(test)]
