@@ -1,5 +1,6 @@
 -- What every draft keeps, call by call: `/` is live, each page has the level of its path, and what was written lies on few ways.
 use Rattle.std.proofs.Common.{◌≡◌, ℕ, ◌+◌, ◌^◌, ◌<◌, ◌≤◌, Bool, true, false, not, ◌&&◌, ◌||◌, cond, nat_eq, List, [], ◌∷◌, ◌++◌, length, ◌⊎◌, inl, inr, refl, sym, ap, subst, ◌∙◌, Option, Some, None, option_map, arith}
+use Rattle.std.proofs.Math.Logic.{∥∥₁_elim}
 use Rattle.std.specs.Option.{option_map_or}
 use Rattle.std.specs.List.{list_any}
 use Rattle.std.specs.Cmp.{first_so, second_so}
@@ -21,10 +22,24 @@ use Rattle.draft_model.specs.Stands.{StandsFor}
 use Rattle.draft_model.specs.Told.{WroteAt}
 use Rattle.draft_model.proofs.Facts.{and_false, has_bit_none}
 use Rattle.draft_model.proofs.Ways.{slot_case}
-use Rattle.draft_tree.specs.Drafts.{HasLevels, IsWrittenOnWays, merged_page, merged_at}
+use Rattle.draft_tree.specs.Drafts.{HasLevels, IsWrittenOnWays, LevelLaw, merged_page, merged_at}
 
 copied_is : (x y : Copied) → Some x ≡ Some y → x ≡ y
 copied_is x y e = ap (λ (o : Option Copied). option_map_or (λ (c : Copied). c) o x) e
+
+-- ---- page by page the same
+
+pub top_same : (old new : View) → ((p : List ℕ) → new p ≡ old p) → live (copies old) [] ≡ true → live (copies new) [] ≡ true
+top_same old new is top = ap (λ (o : Option Copied). option_map_or (λ (c : PageCopy). c.live) (option_map copy_of o) false) (is []) ∙ top
+
+pub levels_same : (old new : View) → ((p : List ℕ) → new p ≡ old p) → HasLevels old → HasLevels new
+levels_same old new is was p c at = was p c (sym (is p) ∙ at)
+
+pub ways_same : (old new : View) (count : ℕ) → ((p : List ℕ) → new p ≡ old p) → ∥ IsWrittenOnWays old count ∥₁ → ∥ IsWrittenOnWays new count ∥₁
+ways_same old new count is =
+    let shows : old ≡ new = λ i p. sym (is p) i in
+    let F : View → Type 0 = λ d. ∥ IsWrittenOnWays d count ∥₁ in
+    subst F shows
 
 -- ---- a page was copied
 
@@ -67,8 +82,8 @@ wrote_fed d q page p wrote = (wrote.0, wrote.1, by (same p q) wrote.2)
 same_ways : (old new : View) (count : ℕ) → ((p : List ℕ) → WroteAt new p → WroteAt old p) → IsWrittenOnWays old count → IsWrittenOnWays new count
 same_ways old new count before ways = record { paths = ways.paths; few = ways.few; on_way = λ p wrote. ways.on_way p (before p wrote) }
 
-pub ways_fed : (d : View) (q : List ℕ) (page : PageValue) (count : ℕ) → IsWrittenOnWays d count → IsWrittenOnWays (fed d q page) count
-ways_fed d q page count = same_ways d (fed d q page) count (wrote_fed d q page)
+pub ways_fed : (d : View) (q : List ℕ) (page : PageValue) (count : ℕ) → ∥ IsWrittenOnWays d count ∥₁ → ∥ IsWrittenOnWays (fed d q page) count ∥₁
+ways_fed d q page count some = ∥∥₁_elim some squash₁ (λ ways. ∣ same_ways d (fed d q page) count (wrote_fed d q page) ways ∣₁)
 
 -- ---- the beginning
 
@@ -81,8 +96,8 @@ top_begun page = refl
 pub levels_begun : (page : PageValue) → page.level ≡ 0 → HasLevels (begun page)
 levels_begun page level = levels_fed (λ _. None) [] page level levels_nothing
 
-pub ways_begun : (page : PageValue) → IsWrittenOnWays (begun page) 0
-ways_begun page = ways_fed (λ _. None) [] page 0 (record { paths = []; few = omega arith; on_way = λ p wrote. never wrote.2 refl })
+pub ways_begun : (page : PageValue) → ∥ IsWrittenOnWays (begun page) 0 ∥₁
+ways_begun page = ways_fed (λ _. None) [] page 0 ∣ record { paths = []; few = omega arith; on_way = λ p wrote. never wrote.2 refl } ∣₁
 
 -- ---- a page was merged
 
@@ -113,8 +128,8 @@ wrote_merged d q merged p wrote = (wrote.0, wrote.1, by wrote.0 (same p q) (d p)
     by (Slot n) true (Some c) h = h
     by k false o h = h
 
-pub ways_merged : (d : View) (q : List ℕ) (merged : PageValue) (count : ℕ) → IsWrittenOnWays d count → IsWrittenOnWays (merged_at d q merged) count
-ways_merged d q merged count = same_ways d (merged_at d q merged) count (wrote_merged d q merged)
+pub ways_merged : (d : View) (q : List ℕ) (merged : PageValue) (count : ℕ) → ∥ IsWrittenOnWays d count ∥₁ → ∥ IsWrittenOnWays (merged_at d q merged) count ∥₁
+ways_merged d q merged count some = ∥∥₁_elim some squash₁ (λ ways. ∣ same_ways d (merged_at d q merged) count (wrote_merged d q merged) ways ∣₁)
 
 -- ---- a step was done
 
@@ -201,8 +216,8 @@ wrote_step d step p wrote = by (is_made (acts (copies d) step) step p) refl (d p
       | inr on ↦ inr on
     ]
 
-pub ways_stepped : (d : View) (step : Step) (count : ℕ) → IsWrittenOnWays d count → IsWrittenOnWays (stepped d step) (count + 1)
-ways_stepped d step count ways = record {
+one_way_more : (d : View) (step : Step) (count : ℕ) → IsWrittenOnWays d count → IsWrittenOnWays (stepped d step) (count + 1)
+one_way_more d step count ways = record {
   paths = target step ∷ ways.paths;
   few = omega (arith, ways.few);
   on_way = λ p wrote. elim (wrote_step d step p wrote) [
@@ -211,14 +226,15 @@ ways_stepped d step count ways = record {
   ];
 }
 
+pub ways_stepped : (d : View) (step : Step) (count : ℕ) → ∥ IsWrittenOnWays d count ∥₁ → ∥ IsWrittenOnWays (stepped d step) (count + 1) ∥₁
+ways_stepped d step count some = ∥∥₁_elim some squash₁ (λ ways. ∣ one_way_more d step count ways ∣₁)
+
 -- ---- the pages of a base
 
 block_is : (x y : PageValue) → Some x ≡ Some y → x ≡ y
 block_is x y e = ap (λ (o : Option PageValue). option_map_or (λ (c : PageValue). c) o x) e
 
--- the page that a draft wants of its base has the level of its path
-pub wanted_level : (store : Store) (root : ℕ) (a : Tree) (steps : List Step) (d : View) (end q : List ℕ) (b : ℕ) (page : PageValue)
-    → StandsFor store root a steps d → Wants (copies d) end q b → store b ≡ Some page → page.level ≡ length q
+pub wanted_level : LevelLaw
 wanted_level store root a steps d end q b page was W holds =
     let stands = slot_case store root a (tree_after a steps) (all_writes a steps) (copies d) was.stands.shape W.above W.last W.copy W.at false (Some b)
     (ap (live (copies d)) (sym W.is) ∙ W.not_yet) W.block in

@@ -2,9 +2,12 @@
 use Rattle.std.specs.Prelude.{◌≡◌, ℕ, ◌+◌, ◌*◌, ◌≤◌, true, if◌then◌else◌, List, length, Option, Some, None, option_map}
 use Rattle.std.specs.List.{list_any}
 use Rattle.afs_base.specs.Path.{is_prefix}
+use Rattle.tree_model.specs.declared.step.Step.{Step}
+use Rattle.tree_model.specs.Trees.{Tree}
 use Rattle.page_codec.specs.Values.{PageValue}
-use Rattle.draft_model.specs.Places.{same}
-use Rattle.draft_model.specs.Views.{Copied, View, PageCopy}
+use Rattle.draft_model.specs.Places.{Store, same}
+use Rattle.draft_model.specs.Views.{Copied, View, PageCopy, copies, Wants}
+use Rattle.draft_model.specs.Stands.{StandsFor}
 use Rattle.draft_model.specs.Told.{WroteAt}
 use Rattle.draft_model.specs.Flush.{AreSomeFresh}
 
@@ -47,3 +50,9 @@ pub record IsWrittenOnWays (d : View) (count : ℕ) : Type 0 where
 -- so many steps make at most these fresh: `/`, and seven paths for each step
 abbrev pub HasFewFresh : View → ℕ → Type 0
 HasFewFresh d count = (paths : List (List ℕ)) → AreSomeFresh d paths → length paths ≤ 1 + 7 * count
+
+-- the page of its base that a draft wants has the level of its path
+abbrev pub LevelLaw : Type 0
+LevelLaw =
+    (store : Store) (root : ℕ) (a : Tree) (steps : List Step) (d : View) (end q : List ℕ) (b : ℕ) (page : PageValue)
+    → StandsFor store root a steps d → Wants (copies d) end q b → store b ≡ Some page → page.level ≡ length q
