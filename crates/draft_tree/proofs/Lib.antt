@@ -1,4 +1,5 @@
 pub mod Fresh
+pub mod Kept
 pub mod PageFacts
 pub mod SlotFacts
 pub mod Stepping

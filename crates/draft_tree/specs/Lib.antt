@@ -1,3 +1,4 @@
+pub mod DraftLaws
 pub mod Drafts
 pub mod Marking
 pub mod Pages

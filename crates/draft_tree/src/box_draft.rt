@@ -1,5 +1,7 @@
-ghost use Rattle.std.specs.Prelude.{◌≡◌, ◌+◌, ◌*◌, ◌<◌, ◌≤◌, length, IfOk};
-ghost use Rattle.draft_model.specs.Views.{end_of};
+ghost use Rattle.std.specs.Prelude.{◌≡◌, ◌+◌, ◌*◌, ◌<◌, ◌≤◌, [], true, length, IfOk};
+ghost use Rattle.draft_model.specs.Views.{copies, end_of, live};
+ghost use Rattle.draft_tree.specs.DraftLaws.{HasLevels-prop};
+ghost use Rattle.draft_tree.specs.Drafts.{HasLevels, IsWrittenOnWays};
 ghost use Rattle.draft_tree.specs.Pages.{shown, fresh_paths};
 
 use crate::copied_page::CopiedPage;
@@ -37,6 +39,10 @@ pub struct BoxDraft {
     ghost most: { count ≤ 128 },
     ghost few: { fed ≤ 7 },
     ghost room: { length pages ≤ 1 + 8 * count + fed },
+    ghost top: { live (copies (shown pages)) [] ≡ true },
+    ghost levels: { HasLevels (shown pages) } by { HasLevels-prop (shown pages) },
+    // Each step writes on the way to its path alone.
+    ghost ways: { ∥ IsWrittenOnWays (shown pages) count ∥₁ },
 }
 
 impl BoxDraft {
@@ -155,4 +161,14 @@ impl Draft for BoxDraft {
         self.root = root;
         self.serial = serial;
     }
+
+    ghost use Rattle.draft_tree.specs.DraftLaws.{few_fresh};
+
+    ghost top = { λ d _. d.top };
+
+    ghost levels = { λ d _. d.levels };
+
+    ghost most = { λ d _. d.most };
+
+    ghost few = { λ d _. few_fresh (shown d.pages) d.count d.ways };
 }

@@ -1,10 +1,10 @@
-ghost use Rattle.std.specs.Prelude.{◌≡◌, ℕ, ◌+◌, ◌<◌, ◌≤◌, ◌↔◌, List, length, slice_get, Some, IsTrue, true, false, IfOk, OnOk, OnErr, MatchOption};
+ghost use Rattle.std.specs.Prelude.{◌≡◌, ℕ, ◌+◌, ◌<◌, ◌≤◌, ◌↔◌, List, [], length, slice_get, Some, IsTrue, true, false, IfOk, OnOk, OnErr, MatchOption};
 ghost use Rattle.tree_model.specs.Trees.{IsMake};
-ghost use Rattle.draft_model.specs.Views.{View, copies, end_of, Wants, WantsNone, IsWanted};
+ghost use Rattle.draft_model.specs.Views.{View, copies, live, end_of, Wants, WantsNone, IsWanted};
 ghost use Rattle.draft_model.specs.Steps.{stepped, reply_in, fed};
 ghost use Rattle.draft_model.specs.Stands.{Runs, Feeds};
 ghost use Rattle.draft_model.specs.Told.{flags_of, searched_of, modified_of, Wrote, AreFresh, TellsFlags, TellsMasks, TellsFresh};
-ghost use Rattle.draft_tree.specs.Drafts.{live_page, CanMerge, merged_at};
+ghost use Rattle.draft_tree.specs.Drafts.{live_page, CanMerge, merged_at, HasLevels, HasFewFresh};
 
 use crate::slot_marks::SlotMarks;
 use afs_base::{BlockNo, Path};
@@ -111,11 +111,12 @@ pub trait Draft {
             (WantsNone (copies (view self.now)) (end_of step.now))
             (λ x. Wants (copies (view self.now)) (end_of step.now) x.0 x.1) };
 
-    /// Copies the base's page at a path that some step needs. At most seven pages are fed from one step to the next. Want of memory leaves
-    /// the draft as it was.
+    /// Copies the base's page at a path that some step needs, which has the level of that path. At most seven pages are fed from one step to
+    /// the next. Want of memory leaves the draft as it was.
     fn feed(&mut self, at: &Path, page: &Page) -> Result<(), Memory>
         requires ready { is_ready self.old }
         requires wanted { IsWanted (copies (view self.old)) at.now }
+        requires level { page.now.level ≡ length at.now }
         requires few { fed_of self.old < 7 }
         ensures fed { OnOk result (view self.new ≡ fed (view self.old) at.now page.now) }
         ensures feeds { OnOk result (Feeds (view self.old) (view self.new) at.now page.now) }
@@ -162,4 +163,16 @@ pub trait Draft {
         ensures count { (count_of self.new ≡ count_of self.old) × (fed_of self.new ≡ fed_of self.old) }
         ensures object { object_of self.new ≡ object_of self.old }
         ensures ready { is_ready self.new };
+
+    /// The page `/` is live.
+    ghost top: { (d : Self) → is_ready d → live (copies (view d)) [] ≡ true };
+
+    /// Each page has the level of its path.
+    ghost levels: { (d : Self) → is_ready d → HasLevels (view d) };
+
+    /// A draft has at most 128 steps.
+    ghost most: { (d : Self) → is_ready d → count_of d ≤ 128 };
+
+    /// The fresh paths are at most `/` and seven for each step.
+    ghost few: { (d : Self) → is_ready d → HasFewFresh (view d) (count_of d) };
 }

@@ -4,12 +4,14 @@
 mod box_draft;
 mod copied_page;
 mod draft;
+mod laws;
 mod pages;
 mod slot_marks;
 mod steps;
 
 pub use box_draft::BoxDraft;
 pub use draft::Draft;
+pub use laws::level_law;
 pub use slot_marks::SlotMarks;
 pub use tree_model::Memory;
 

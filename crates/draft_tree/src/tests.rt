@@ -1,4 +1,4 @@
-ghost use Rattle.std.specs.Prelude.{◌≡◌, ◌<◌, OnOk, IfOk, IfSome};
+ghost use Rattle.std.specs.Prelude.{◌≡◌, ◌<◌, length, OnOk, IfOk, IfSome};
 
 use crate::{BoxDraft, Draft, SlotMarks};
 use afs_base::{BlockNo, PageData, Path, Slot};
@@ -105,6 +105,17 @@ fn stored(block: u32) -> Option<Page> {
     decode_page(&bytes).ok()
 }
 
+/// The page in a block of the base where its level is that of the path.
+fn stored_at(at: &Path, block: BlockNo) -> Option<Page>
+    ensures { IfSome result (λ page. page.level ≡ length at.now) }
+{
+    let page = stored(block.get())?;
+    if page.level as usize != at.len() {
+        return None;
+    }
+    Some(page)
+}
+
 /// A version page, after it was written and read.
 fn version(page: Page) -> Option<VersionPage> {
     if page.level != 0 {
@@ -146,7 +157,7 @@ fn run(rt: &impl Abort, draft: &mut BoxDraft, step: &Step) -> Result<Reply, Fail
     assert!(rt; draft.count() < 128);
     for _fed in 0..7u32 {
         match draft.need(step) {
-            Some((at, block)) => draft.feed(&at, &stored(block.get()).ok_or("no page")?)?,
+            Some((at, block)) => draft.feed(&at, &stored_at(&at, block).ok_or("no page")?)?,
             None => return Ok(draft.step(step)?),
         }
     }

@@ -2,9 +2,9 @@
 use Rattle.std.proofs.Common.{◌≡◌, length, ℕ, Bool, true, false, List, ap, subst, ◌∙◌, Option, Some, option_map, MatchOption}
 use Rattle.page_codec.specs.Values.{ReferenceValue, PageValue}
 use Rattle.draft_model.specs.Views.{Copied, View, copy_of, copies, live}
-use Rattle.draft_model.specs.Flush.{Placed, IsOfUpdate, flushed_slots, flushed_page}
+use Rattle.draft_model.specs.Flush.{Placed, flushed_slots, flushed_page}
 use Rattle.draft_model.proofs.Flushing.{copied_at}
-use Rattle.draft_tree.specs.Drafts.{live_page}
+use Rattle.draft_tree.specs.Drafts.{live_page, HasLevels}
 use Rattle.version_chain.specs.Flush.{IsPageFor}
 
 -- what a draft gives out of a live page
@@ -23,14 +23,14 @@ given_is : (d : View) (q : List ℕ) (found : Bool) (before after : PageValue) (
 given_is d q found before after c here alive given = subst (MatchesAs found before after) (page_is d q c here alive) given
 
 -- the page that was given out, with its slots as they are written
-pub page_made : (d : View) (placed : List Placed) (q : List ℕ) (found : Bool) (before after : PageValue) → IsOfUpdate d → live (copies d) q ≡ true → IsGiven d q found before after
+pub page_made : (d : View) (placed : List Placed) (q : List ℕ) (found : Bool) (before after : PageValue) → HasLevels d → live (copies d) q ≡ true → IsGiven d q found before after
     → (refs : List ReferenceValue) → refs ≡ flushed_slots d placed q 0 after.refs
     → IsPageFor d placed q (record { level = after.level; modified = after.modified; refs = refs; bytes = after.bytes })
-page_made d placed q found before after update here given refs refs_are =
+page_made d placed q found before after levels here given refs refs_are =
     let copy = copied_at d q here in
     let c = copy.0 in
     let is : after ≡ c.page = (given_is d q found before after c copy.1 copy.2.live given).1 in
-    let level : after.level ≡ length q = ap (λ (page : PageValue). page.level) is ∙ update.stands.stands.shape.level_is q (copy_of c) copy.2 in
+    let level : after.level ≡ length q = ap (λ (page : PageValue). page.level) is ∙ levels q c copy.1 in
     record {
       copy = c;
       here = copy.1;

@@ -5,4 +5,3 @@ pub mod Given
 pub mod Written
 pub mod Writing
 pub mod Whole
-pub mod Updates

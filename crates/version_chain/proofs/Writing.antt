@@ -16,7 +16,7 @@ use Rattle.block_map.specs.declared.states.BlockState.{BlockState}
 use Rattle.draft_model.specs.Places.{same}
 use Rattle.draft_model.specs.Views.{View, copies, live}
 use Rattle.draft_model.specs.Told.{IsFresh, are_rising, is_one_of, AreFresh}
-use Rattle.draft_model.specs.Flush.{Placed, written_paths, IsOfUpdate, IsPlaced, flushed_page, in_turn, is_block_of, are_apart}
+use Rattle.draft_model.specs.Flush.{Placed, written_paths, IsPlaced, flushed_page, in_turn, is_block_of, are_apart}
 use Rattle.draft_model.proofs.Flushing.{written_told}
 use Rattle.version_chain.specs.Flush.{Plan, Base, paths_of, AreHeld, StartsAtRoot, IsPageFor, flushed_version, IsVersionFor, IsPageBlock, IsVersionBlock, IsWritten}
 use Rattle.version_chain.proofs.Written.{get_more}
@@ -76,11 +76,11 @@ turn_among (y ∷ placed) k x at = elim (get_more placed y k x at) [
   | inr e ↦ or_left (same x.path y.path) (is_one_of (paths_of placed) x.path) (ap (λ (z : Placed). same x.path z.path) (sym e.1) ∙ same_self x.path)
 ]
 
-pub live_in_turn : (d : View) (placed : List Placed) (k : ℕ) (x : Placed) → IsOfUpdate d → IsPlaced d placed → slice_get (in_turn placed) k ≡ Some x → live (copies d) x.path ≡ true
-live_in_turn d placed k x of plan at =
+pub live_in_turn : (d : View) (placed : List Placed) (k : ℕ) (x : Placed) → live (copies d) [] ≡ true → IsPlaced d placed → slice_get (in_turn placed) k ≡ Some x → live (copies d) x.path ≡ true
+live_in_turn d placed k x top plan at =
     elim (written_told plan.fresh x.path (ap (λ (ps : List (List ℕ)). is_one_of ps x.path) (sym plan.paths) ∙ turn_among placed k x at)) [
       | inl e ↦ ((plan.are.each x.path).0 e).0
-      | inr e ↦ ap (live (copies d)) e ∙ of.stands.stands.shape.top
+      | inr e ↦ ap (live (copies d)) e ∙ top
     ]
 
 -- `/` stands before every other path
@@ -98,22 +98,22 @@ top_first fresh (s ∷ p) rising h = elim (or_told (same [] (s ∷ p)) (is_one_o
   | inr e ↦ absurd (not_later s p fresh (first_so (list_all (λ q. is_lt (path_cmp (s ∷ p) q)) fresh) (are_rising fresh) rising) e)
 ]
 
-top_fresh : (d : View) (p : List ℕ) → IsOfUpdate d → IsFresh d p → IsFresh d []
-top_fresh d p of fresh = (of.stands.stands.shape.top, (p ++ fresh.1.0, fresh.1.1))
+top_fresh : (d : View) (p : List ℕ) → live (copies d) [] ≡ true → IsFresh d p → IsFresh d []
+top_fresh d p top fresh = (top, (p ++ fresh.1.0, fresh.1.1))
 
-written_first : (d : View) (fresh : List (List ℕ)) → IsOfUpdate d → AreFresh d fresh → slice_get (written_paths fresh) 0 ≡ Some []
-written_first d [] of are = refl
-written_first d (p ∷ fresh) of are =
+written_first : (d : View) (fresh : List (List ℕ)) → live (copies d) [] ≡ true → AreFresh d fresh → slice_get (written_paths fresh) 0 ≡ Some []
+written_first d [] top are = refl
+written_first d (p ∷ fresh) top are =
     let one : IsFresh d p = (are.each p).0 (or_left (same p p) (is_one_of fresh p) (same_self p)) in
-    ap (λ (q : List ℕ). Some q) (top_first fresh p are.rising ((are.each []).1 (top_fresh d p of one)))
+    ap (λ (q : List ℕ). Some q) (top_first fresh p are.rising ((are.each []).1 (top_fresh d p top one)))
 
-pub starts : (d : View) (fresh : List (List ℕ)) (placed : List Placed) → IsOfUpdate d → AreFresh d fresh → paths_of placed ≡ written_paths fresh → StartsAtRoot placed
-starts d fresh [] of are paths = absurd (none)
+pub starts : (d : View) (fresh : List (List ℕ)) (placed : List Placed) → live (copies d) [] ≡ true → AreFresh d fresh → paths_of placed ≡ written_paths fresh → StartsAtRoot placed
+starts d fresh [] top are paths = absurd (none)
   where
     none : ⊥
-    none = let e : slice_get (paths_of []) 0 ≡ Some [] = ap (λ (ps : List (List ℕ)). slice_get ps 0) paths ∙ written_first d fresh of are in cc
-starts d fresh (x ∷ placed) of are paths =
-    let e : Some x.path ≡ Some [] = ap (λ (ps : List (List ℕ)). slice_get ps 0) paths ∙ written_first d fresh of are in
+    none = let e : slice_get (paths_of []) 0 ≡ Some [] = ap (λ (ps : List (List ℕ)). slice_get ps 0) paths ∙ written_first d fresh top are in cc
+starts d fresh (x ∷ placed) top are paths =
+    let e : Some x.path ≡ Some [] = ap (λ (ps : List (List ℕ)). slice_get ps 0) paths ∙ written_first d fresh top are in
     let is : x.path ≡ [] = ap (λ (o : Option (List ℕ)). option_map_or (λ (y : List ℕ). y) o x.path) e in
     (x.block, ap (λ (p : List ℕ). Some (record { path = p; block = x.block })) is)
 

@@ -12,8 +12,8 @@ use Rattle.block_map.specs.declared.states.BlockState.TheVariants.{Held}
 use Rattle.draft_model.specs.Places.{same}
 use Rattle.draft_model.specs.Views.{View}
 use Rattle.draft_model.specs.Told.{are_rising, is_one_of, AreFresh}
-use Rattle.draft_model.specs.Flush.{Placed, written_paths, IsOfUpdate}
-use Rattle.draft_model.proofs.Few.{few_fresh}
+use Rattle.draft_model.specs.Flush.{Placed, written_paths}
+use Rattle.draft_tree.specs.Drafts.{HasFewFresh}
 use Rattle.version_chain.specs.Flush.{paths_of, AreHeld}
 
 abbrev Paths : Type 0
@@ -98,14 +98,15 @@ short_more (p ∷ paths) q all h =
     both_true (nat_le (length p) 7) (are_short (paths ++ q ∷ [])) (first_so (nat_le (length p) 7) (are_short paths) all)
     (short_more paths q (second_so (nat_le (length p) 7) (are_short paths) all) h)
 
-few_written : (d : View) (fresh : Paths) (k : ℕ) → IsOfUpdate d → AreFresh d fresh → k < length (written_paths fresh)
+few_written : (d : View) (count : ℕ) (fresh : Paths) (k : ℕ) → count ≤ 128 → HasFewFresh d count → AreFresh d fresh → k < length (written_paths fresh)
     → are_short (take (suc k) (written_paths fresh)) ≡ true → k < 897
-few_written d [] k of are small short = omega arith
-few_written d (p ∷ fresh) k of are small short =
+few_written d count [] k most few are small short = omega arith
+few_written d count (p ∷ fresh) k most few are small short =
     omega (
       arith,
+      most,
       length_front (p ∷ fresh) (suc k) small,
-      few_fresh d (take (suc k) (p ∷ fresh)) of (record {
+      few (take (suc k) (p ∷ fresh)) (record {
         rising = rising_front (p ∷ fresh) (suc k) are.rising;
         fresh = λ q h. (are.each q).0 (in_front (p ∷ fresh) (suc k) q h);
         short = λ q h. short_one (take (suc k) (p ∷ fresh)) q short h;
@@ -144,15 +145,15 @@ one_place states client from paths placed k path block so_far small at short hel
     size = sym (length_paths placed) ∙ ap length so_far.paths_are ∙ length_front paths k (omega arith)
 
 -- there is room for one place more
-pub one_more : (d : View) (fresh : Paths) (states : List BlockState) (client from : ℕ) (placed : List Placed) (k : ℕ) (path : List ℕ) → IsOfUpdate d → AreFresh d fresh
+pub one_more : (d : View) (count : ℕ) (fresh : Paths) (states : List BlockState) (client from : ℕ) (placed : List Placed) (k : ℕ) (path : List ℕ) → count ≤ 128 → HasFewFresh d count → AreFresh d fresh
     → PlacesSoFar states client from (written_paths fresh) placed k → k < length (written_paths fresh) → slice_get (written_paths fresh) k ≡ Some path → length path ≤ 7
     → length placed < 897
-one_more d fresh states client from placed k path of are so_far small at short =
+one_more d count fresh states client from placed k path most few are so_far small at short =
     let size : length placed ≡ k = sym (length_paths placed) ∙ ap length so_far.paths_are ∙ length_front (written_paths fresh) k (omega arith) in
     omega (
       arith,
       size,
-      few_written d fresh k of are small
+      few_written d count fresh k most few are small
           (subst (λ (ps : Paths). are_short ps ≡ true) (sym (front_more (written_paths fresh) k path at)) (short_more (take k (written_paths fresh)) path so_far.short short)),
     )
 

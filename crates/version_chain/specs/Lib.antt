@@ -1,4 +1,3 @@
 pub mod Chain
 pub mod Flush
 pub mod Laws
-pub mod Updates

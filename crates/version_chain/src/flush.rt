@@ -1,7 +1,7 @@
 ghost use Rattle.std.specs.Prelude.{◌≡◌, ℕ, ◌+◌, ◌<◌, ◌≤◌, ◌^◌, [], true, length, slice_get, MatchOption, OnSome, Some};
 ghost use Rattle.block_map.specs.States.{held_count};
 ghost use Rattle.draft_model.specs.Views.{copies, live};
-ghost use Rattle.draft_model.specs.Flush.{IsOfUpdate, IsPlaced, written_paths, are_apart, in_turn};
+ghost use Rattle.draft_model.specs.Flush.{IsPlaced, written_paths, are_apart, in_turn};
 ghost use Rattle.version_chain.specs.Flush.{paths_of, AreHeld, StartsAtRoot, IsVersionFor, IsWritten, GivesNext, IsDone};
 
 use crate::pages::page_for;
@@ -48,7 +48,6 @@ fn copy_of(members: &Members) -> Members
 /// The version page that is written for a draft.
 fn version_for<D: Draft>(draft: &D, places: &[Place], members: &Members) -> VersionPage
     requires ready { D.is_ready draft.now }
-    requires update { IsOfUpdate (D.view draft.now) }
     requires serial { D.serial_of draft.now + 1 < 2 ^ 64 }
     requires live { live (copies (D.view draft.now)) [] ≡ true }
     ensures { IsVersionFor (D.view draft.now) (record { root = D.root_of draft.now; object = D.object_of draft.now; serial = D.serial_of draft.now }) places.now members.now result }
@@ -76,7 +75,6 @@ impl Flush {
         members: Members,
     ) -> Flush
         requires ready { D.is_ready draft.now }
-        requires update { IsOfUpdate (D.view draft.now) }
         requires room { from + length (written_paths (D.fresh_of draft.now)) ≤ held_count client map.now }
         ensures paths { paths_of result.placed ≡ written_paths (D.fresh_of draft.now) }
         ensures placed { IsPlaced (D.view draft.now) result.placed }
@@ -116,7 +114,6 @@ impl Flush {
     /// The draft is that of `plan`, unchanged since.
     pub fn next<D: Draft>(&mut self, draft: &D, into: &mut Block) -> Option<BlockNo>
         requires ready { D.is_ready draft.now }
-        requires update { IsOfUpdate (D.view draft.now) }
         requires serial { D.serial_of draft.now + 1 < 2 ^ 64 }
         requires placed { IsPlaced (D.view draft.now) self.old.placed }
         ensures gives { MatchOption result
@@ -133,7 +130,6 @@ impl Flush {
     /// Writes the page of a live path into a block: of `/` the version page.
     fn write<D: Draft>(&self, draft: &D, path: &Path, into: &mut Block)
         requires ready { D.is_ready draft.now }
-        requires update { IsOfUpdate (D.view draft.now) }
         requires serial { D.serial_of draft.now + 1 < 2 ^ 64 }
         requires live { live (copies (D.view draft.now)) path.now ≡ true }
         ensures { IsWritten (D.view draft.now) (record { root = D.root_of draft.now; object = D.object_of draft.now; serial = D.serial_of draft.now }) self.now path.now into.new }

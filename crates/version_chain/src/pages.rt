@@ -2,7 +2,7 @@ ghost use Rattle.std.specs.Prelude.{◌≡◌, ◌<◌, ◌++◌, ◌∷◌, [],
 ghost use Rattle.std.specs.List.{list_any};
 ghost use Rattle.page_codec.specs.Bounds.{is_used};
 ghost use Rattle.draft_model.specs.Views.{copies, live};
-ghost use Rattle.draft_model.specs.Flush.{IsOfUpdate, block_of, flushed_slot, flushed_slots};
+ghost use Rattle.draft_model.specs.Flush.{block_of, flushed_slot, flushed_slots};
 ghost use Rattle.version_chain.specs.Flush.{IsPageFor};
 
 use crate::place::{Place, place_below};
@@ -65,10 +65,9 @@ fn slots_of<D: Draft>(
     refs
 }
 
-/// The page that is written for a live path of a draft that stands for an update.
+/// The page that is written for a live path of a draft.
 pub fn page_for<D: Draft>(draft: &D, places: &[Place], at: &Path) -> Page
     requires ready { D.is_ready draft.now }
-    requires update { IsOfUpdate (D.view draft.now) }
     requires live { live (copies (D.view draft.now)) at.now ≡ true }
     ensures { IsPageFor (D.view draft.now) places.now at.now result }
 {

@@ -1,7 +1,7 @@
 ghost use Rattle.std.specs.Prelude.{◌≡◌, ℕ, ◌+◌, ◌<◌, ◌≤◌, length, slice_get, Some, [], ◌∷◌};
 ghost use Rattle.block_map.specs.States.{held_count, held_below};
 ghost use Rattle.block_map.specs.declared.states.BlockState.TheVariants.{Held};
-ghost use Rattle.draft_model.specs.Flush.{IsOfUpdate, written_paths};
+ghost use Rattle.draft_model.specs.Flush.{written_paths};
 ghost use Rattle.version_chain.specs.Flush.{paths_of, AreHeld};
 
 use crate::place::Place;
@@ -10,7 +10,7 @@ use arrayvec::ArrayVec;
 use block_map::BlockMap;
 use draft_tree::Draft;
 
-/// The most paths that are written: an update has at most 897 fresh ones, which are `/` and seven for each of its 128 steps.
+/// The most paths that are written: a draft has at most 897 fresh ones, which are `/` and seven for each of its 128 steps.
 pub const MAX_PLACES: usize = 897;
 
 /// The k-th path that is written: the k-th fresh one, or `/` where none is fresh.
@@ -50,7 +50,6 @@ pub fn places_of<D: Draft>(
     from: u32,
 ) -> ArrayVec<Place, MAX_PLACES>
     requires ready { D.is_ready draft.now }
-    requires update { IsOfUpdate (D.view draft.now) }
     requires room { from + length (written_paths (D.fresh_of draft.now)) ≤ held_count client map.now }
     ensures paths { paths_of result.items ≡ written_paths (D.fresh_of draft.now) }
     ensures blocks { AreHeld map.now client from result.items }

@@ -16,7 +16,7 @@ fn read_down(rt: &impl Abort, draft: &mut BoxDraft, at: &Path) -> Result<Reply, 
             (above.len(), block.get()),
             (level as usize + 1, 11 + level)
         );
-        draft.feed(&above, &stored(block.get()).ok_or("no page")?)?;
+        draft.feed(&above, &stored_at(&above, block).ok_or("no page")?)?;
     }
     match draft.need(&step) {
         Some(_) => Err(Fail::new("more is needed")),

@@ -1,9 +1,8 @@
 //! The blocks that are written, byte by byte.
-ghost use Rattle.std.specs.Prelude.{◌≡◌, ℕ, ◌+◌, ◌<◌, ◌^◌, IfSome, OnSome, Some};
-ghost use Rattle.draft_model.specs.Flush.{IsOfUpdate, IsPlaced};
-ghost use Rattle.version_chain.specs.Updates.{IsUpdate, NamesTwo};
+ghost use Rattle.std.specs.Prelude.{◌≡◌, ◌+◌, ◌<◌, ◌^◌, IfSome, OnSome};
+ghost use Rattle.draft_model.specs.Flush.{IsPlaced};
 
-use super::updates::{begun, begun_on_two, done, new_file, number, planned};
+use super::updates::{begun, done, new_file, number, planned};
 use super::*;
 
 /// The value of a hexadecimal digit.
@@ -49,7 +48,6 @@ struct Expected {
 /// Takes all blocks out of a flush and compares each with what is expected.
 fn compare<D: Draft>(rt: &impl Abort, draft: &D, flush: &mut Flush, expected: &[Expected])
     requires ready { D.is_ready draft.now }
-    requires update { IsOfUpdate (D.view draft.now) }
     requires serial { D.serial_of draft.now + 1 < 2 ^ 64 }
     requires placed { IsPlaced (D.view draft.now) flush.old.placed }
 {
@@ -73,19 +71,16 @@ fn below(slot: u8) -> Option<Path> {
 fn made(draft: &mut BoxDraft, slot: u8, at: BlockNo, page: &Page) -> Option<()>
     requires none_fed { ⟦<BoxDraft as Draft>⟧.fed_of draft.old ≡ 0 }
     ensures fed { OnSome result (⟦<BoxDraft as Draft>⟧.fed_of draft.new ≡ 0) }
-    ensures update { OnSome result ((n : ℕ) → IsUpdate at page.now (⟦<BoxDraft as Draft>⟧.view draft.old) n → IsUpdate at page.now (⟦<BoxDraft as Draft>⟧.view draft.new) (n + 1)) }
 {
     let child = Child::of(&below(slot)?)?;
     done(draft, &Step::MakeAt { at: child }, at, page)
 }
 
 /// A new file in block 1, and an update that makes `/0` and `/1`.
-fn two_made(alloc: Global) -> Option<BoxDraft>
-    ensures { IfSome result (λ d. IsOfUpdate (⟦<BoxDraft as Draft>⟧.view d)) }
-{
+fn two_made(alloc: Global) -> Option<BoxDraft> {
     let at = number(1)?;
     let page = Page::empty(0);
-    let mut draft = begun(alloc, at, &new_file(), &page)?;
+    let mut draft = begun(alloc, at, &new_file())?;
     made(&mut draft, 0, at, &page)?;
     made(&mut draft, 1, at, &page)?;
     Some(draft)
@@ -111,7 +106,6 @@ fn two_below(serial: u64, first: BlockNo, second: BlockNo) -> Option<VersionPage
     requires serial { 0 < serial }
     requires first { 0 < first }
     requires second { 0 < second }
-    ensures names { IfSome result (λ version. NamesTwo first second version.page) }
 {
     let flags = Flags::of_code(9).ok()?;
     Some(VersionPage {
@@ -136,8 +130,7 @@ fn two_below(serial: u64, first: BlockNo, second: BlockNo) -> Option<VersionPage
 
 /// A page `/` with two slots in use.
 fn with_two(first: Reference, second: Reference) -> Page
-    ensures names { (m n : ℕ) → first.block ≡ Some m → second.block ≡ Some n → NamesTwo m n result }
-    ensures level { result.level ≡ 0 }
+    ensures { result.level ≡ 0 }
 {
     let mut page = Page::empty(0);
     page.refs[0] = first;
@@ -146,35 +139,29 @@ fn with_two(first: Reference, second: Reference) -> Page
 }
 
 /// The version in these blocks, and an update that writes `aa` at `/0`.
-fn one_written(alloc: Global) -> Option<BoxDraft>
-    ensures { IfSome result (λ d. IsOfUpdate (⟦<BoxDraft as Draft>⟧.view d)) }
-{
+fn one_written(alloc: Global) -> Option<BoxDraft> {
     let at = number(4)?;
-    let below_at = (at, number(5)?);
-    let version = two_below(2, below_at.0, below_at.1)?;
+    let version = two_below(2, at, number(5)?)?;
     let leaf = Page::empty(1);
     let step = Step::WriteAt {
         at: below(0)?,
         bytes: PageData::of(&[0xaa]),
     };
-    let mut draft = begun_on_two(alloc, number(3)?, &version, below_at, at, &leaf)?;
+    let mut draft = begun(alloc, number(3)?, &version)?;
     done(&mut draft, &step, at, &leaf)?;
     Some(draft)
 }
 
 /// The version which that update makes, and an update that writes `bb` at `/1`.
-fn other_written(alloc: Global) -> Option<BoxDraft>
-    ensures { IfSome result (λ d. IsOfUpdate (⟦<BoxDraft as Draft>⟧.view d)) }
-{
+fn other_written(alloc: Global) -> Option<BoxDraft> {
     let at = number(5)?;
-    let below_at = (number(7)?, at);
-    let version = two_below(3, below_at.0, below_at.1)?;
+    let version = two_below(3, number(7)?, at)?;
     let leaf = Page::empty(1);
     let step = Step::WriteAt {
         at: below(1)?,
         bytes: PageData::of(&[0xbb]),
     };
-    let mut draft = begun_on_two(alloc, number(6)?, &version, below_at, at, &leaf)?;
+    let mut draft = begun(alloc, number(6)?, &version)?;
     done(&mut draft, &step, at, &leaf)?;
     Some(draft)
 }
@@ -202,12 +189,10 @@ const OTHER_WROTE: [Expected; 2] = [
 ];
 
 /// A new file in block 1, and an update that only lists `/`.
-fn none_written(alloc: Global) -> Option<BoxDraft>
-    ensures { IfSome result (λ d. IsOfUpdate (⟦<BoxDraft as Draft>⟧.view d)) }
-{
+fn none_written(alloc: Global) -> Option<BoxDraft> {
     let at = number(1)?;
     let page = Page::empty(0);
-    let mut draft = begun(alloc, at, &new_file(), &page)?;
+    let mut draft = begun(alloc, at, &new_file())?;
     done(&mut draft, &Step::ListAt { at: Path::root() }, at, &page)?;
     Some(draft)
 }
@@ -226,9 +211,7 @@ fn flushes(
     from: u32,
     members: Members,
     expected: &[Expected],
-) -> Option<()>
-    requires { IsOfUpdate (⟦<BoxDraft as Draft>⟧.view draft.now) }
-{
+) -> Option<()> {
     if draft.serial() == u64::MAX {
         return None;
     }

@@ -1,18 +1,13 @@
 //! Drafts on hand-made bases, and what they write.
-ghost use Rattle.std.specs.Prelude.{◌≡◌, ℕ, ◌+◌, ◌<◌, ◌≤◌, ◌^◌, IfOk, IfSome, OnSome, nat_eq, false};
+ghost use Rattle.std.specs.Prelude.{◌≡◌, ◌<◌, ◌≤◌, ◌^◌, IfSome, OnSome};
 ghost use Rattle.block_map.specs.States.{held_count};
-ghost use Rattle.page_codec.specs.Values.{PageValue};
-ghost use Rattle.page_codec.specs.Blank.{empty_page};
-ghost use Rattle.draft_model.specs.Flush.{IsOfUpdate, IsPlaced};
+ghost use Rattle.draft_model.specs.Flush.{IsPlaced};
 ghost use Rattle.draft_model.specs.Views.{copies, end_of, Wants};
-ghost use Rattle.version_chain.specs.Updates.{IsUpdate, IsLeaf, NamesTwo};
 
 use super::*;
 
 /// The version page of a file that was just made.
-pub fn new_file() -> VersionPage
-    ensures { result.page ≡ empty_page 0 }
-{
+pub fn new_file() -> VersionPage {
     VersionPage {
         root: Flags::none(),
         page: Page::empty(0),
@@ -32,37 +27,10 @@ pub fn number(n: u32) -> Option<BlockNo>
     BlockNo::of(n).ok()
 }
 
-/// A draft on a version whose page `/` has no slots.
-pub fn begun(alloc: Global, at: BlockNo, version: &VersionPage, page: &Page) -> Option<BoxDraft>
-    requires named { 0 < at }
-    requires same { version.now.page ≡ page.now }
-    requires bare { page.now ≡ empty_page 0 }
-    ensures update { IfSome result (λ d. IsUpdate at page.now (⟦<BoxDraft as Draft>⟧.view d) 0) }
-    ensures fed { IfSome result (λ d. ⟦<BoxDraft as Draft>⟧.fed_of d ≡ 0) }
-{
-    match BoxDraft::begin(alloc, at, version) {
-        Ok(draft) => Some(draft),
-        Err(_) => None,
-    }
-}
-
-/// A draft on a version which has `/0` and `/1` in these two blocks, of which the page in one is known.
-pub fn begun_on_two(
-    alloc: Global,
-    at: BlockNo,
-    version: &VersionPage,
-    below: (BlockNo, BlockNo),
-    leaf_at: BlockNo,
-    leaf: &Page,
-) -> Option<BoxDraft>
-    requires named { 0 < at }
-    requires names { NamesTwo below.0 below.1 version.now.page }
-    requires first { nat_eq below.0 at ≡ false }
-    requires second { nat_eq below.1 at ≡ false }
-    requires known { nat_eq leaf_at at ≡ false }
-    requires leaf { IsLeaf leaf.now }
-    ensures update { IfSome result (λ d. IsUpdate leaf_at leaf.now (⟦<BoxDraft as Draft>⟧.view d) 0) }
-    ensures fed { IfSome result (λ d. ⟦<BoxDraft as Draft>⟧.fed_of d ≡ 0) }
+/// A draft on a version.
+pub fn begun(alloc: Global, at: BlockNo, version: &VersionPage) -> Option<BoxDraft>
+    requires { 0 < at }
+    ensures { IfSome result (λ d. ⟦<BoxDraft as Draft>⟧.fed_of d ≡ 0) }
 {
     match BoxDraft::begin(alloc, at, version) {
         Ok(draft) => Some(draft),
@@ -76,7 +44,6 @@ fn copied<D: Draft>(draft: &mut D, step: &Step, at: BlockNo, page: &Page) -> Opt
     requires none_fed { D.fed_of draft.old ≡ 0 }
     ensures ready { D.is_ready draft.new }
     ensures fed { D.fed_of draft.new ≤ 1 }
-    ensures update { OnSome result ((n : ℕ) → IsUpdate at page.now (D.view draft.old) n → IsUpdate at page.now (D.view draft.new) n) }
 {
     match draft.need(step) {
         None => Some(()),
@@ -85,7 +52,7 @@ fn copied<D: Draft>(draft: &mut D, step: &Step, at: BlockNo, page: &Page) -> Opt
     }
 }
 
-/// Copies the page that a step needs.
+/// Copies the page that a step needs, where it has the level of its path.
 fn copied_at<D: Draft>(
     draft: &mut D,
     step: &Step,
@@ -98,8 +65,10 @@ fn copied_at<D: Draft>(
     requires wants { Wants (copies (D.view draft.old)) (end_of step.now) path.now at }
     ensures ready { D.is_ready draft.new }
     ensures fed { D.fed_of draft.new ≤ 1 }
-    ensures update { OnSome result ((n : ℕ) → IsUpdate at page.now (D.view draft.old) n → IsUpdate at page.now (D.view draft.new) n) }
 {
+    if page.level as usize != path.len() {
+        return None;
+    }
     match draft.feed(path, page) {
         Ok(()) => Some(()),
         Err(_) => None,
@@ -112,7 +81,6 @@ pub fn done<D: Draft>(draft: &mut D, step: &Step, at: BlockNo, page: &Page) -> O
     requires none_fed { D.fed_of draft.old ≡ 0 }
     ensures ready { D.is_ready draft.new }
     ensures fed { OnSome result (D.fed_of draft.new ≡ 0) }
-    ensures update { OnSome result ((n : ℕ) → IsUpdate at page.now (D.view draft.old) n → IsUpdate at page.now (D.view draft.new) (n + 1)) }
 {
     copied(draft, step, at, page)?;
     stepped(draft, step)
@@ -124,7 +92,6 @@ fn stepped<D: Draft>(draft: &mut D, step: &Step) -> Option<()>
     requires few { D.fed_of draft.old ≤ 1 }
     ensures ready { D.is_ready draft.new }
     ensures fed { OnSome result (D.fed_of draft.new ≡ 0) }
-    ensures update { OnSome result ((b n : ℕ) (page : PageValue) → IsUpdate b page (D.view draft.old) n → IsUpdate b page (D.view draft.new) (n + 1)) }
 {
     if draft.need(step).is_some() || draft.count() == 128 {
         return None;
@@ -155,7 +122,6 @@ pub fn planned<D: Draft>(
     members: Members,
 ) -> Option<Flush>
     requires ready { D.is_ready draft.now }
-    requires update { IsOfUpdate (D.view draft.now) }
     ensures { IfSome result (λ f. IsPlaced (D.view draft.now) f.placed) }
 {
     let client = ClientNo::of(1).ok()?;

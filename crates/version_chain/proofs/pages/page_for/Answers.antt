@@ -9,4 +9,4 @@ returns g c =
     let F : PageValue → Type 0 = λ page. IsGiven (g.D.Draft.view c.args.draft.now) c.args.at.now c.page-is_live.result c.empty-page.result page in
     page_made (g.D.Draft.view c.args.draft.now) c.args.places.now c.args.at.now c.page-is_live.result c.empty-page.result
     (record { level = c.page.inside.level; modified = c.page.inside.modified; refs = c.page.inside.refs; bytes = c.page.inside.bytes })
-    c.requires.update c.requires.live (subst F (sym c.page.view_is) c.page-is_live.ensures) c.slots_of-page-inside.result c.slots_of-page-inside.ensures.value
+    (g.met.D.Draft.levels c.args.draft.now c.requires.ready) c.requires.live (subst F (sym c.page.view_is) c.page-is_live.ensures) c.slots_of-page-inside.result c.slots_of-page-inside.ensures.value
