@@ -7,6 +7,7 @@ use drives::MemDrives;
 use page_codec::{Why, fresh_image};
 use pair_store::Pair;
 use std::alloc::{AllocError, Global};
+use std::process::Abort;
 use std::test::Fail;
 
 /// Bytes to be put at an offset.
@@ -25,19 +26,63 @@ const HISTORY: [Patch; 8] = [
     (5120 + 86, &[0, 0, 0, 2]),
 ];
 
-const CASES: [(&[Patch], Option<(u32, Why)>); 20] = [
+/// A page at `/0` of the second version of file 1, in block 6.
+const PAGE: [Patch; 2] = [(4096 + 4, &[0x10, 0, 0, 6]), (6144, &[0xA5, 0x50, 1])];
+
+/// A table of format 2, whose part 0 in block 7 has the entry of file 1.
+const PARTS: [Patch; 5] = [
+    (2, &[2]),
+    (16, &[0; 960]),
+    (16, &[0, 0, 0, 7]),
+    (7168, &[0xA5, 0x45, 0]),
+    (7168 + 16, &[0, 0, 0, 1, 0, 0, 0, 1]),
+];
+
+/// What is put on top of the files, and why the store is refused then.
+type Case = (&'static [Patch], Option<(u32, Why)>);
+
+/// Causes of block 0.
+const TABLE_CASES: [Case; 14] = [
     (&[], None),
-    // The base of a first version is not looked at.
-    (&[(1024 + 86, &[0, 0, 0, 7])], None),
     (&[(0, &[0])], Some((0, Why::Closed))),
+    (&[(1, &[0x50])], Some((0, Why::Kind))),
     (&[(2, &[3])], Some((0, Why::Format))),
+    (&[(4, &[0, 0, 0, 1])], Some((0, Why::Blocks))),
+    (&[(4, &[0, 1, 0, 1])], Some((0, Why::Blocks))),
+    // In range, and above the number of the halves.
     (&[(4, &[0, 0, 0, 9])], Some((0, Why::Blocks))),
+    (&[(16, &[0, 0, 0, 8])], Some((0, Why::Reference))),
+    (&[(23, &[0])], Some((0, Why::Generation))),
+    (&[(72, &[1])], Some((0, Why::Secret))),
+    (&[(3, &[1])], Some((0, Why::Zero))),
+    (&[(976, &[1])], Some((0, Why::Zero))),
     (&[(32, &[0, 0, 0, 1])], Some((1, Why::Seen))),
     (&[(48, &[0, 0, 0, 7])], Some((7, Why::Closed))),
-    (&[(1024 + 73, &[2])], Some((1, Why::Object))),
+];
+
+/// Causes of version pages, and of how they follow each other.
+const VERSION_CASES: [Case; 26] = [
+    // The base of a first version is not looked at.
+    (&[(1024 + 86, &[0, 0, 0, 7])], None),
+    (&[(1024, &[0])], Some((1, Why::Closed))),
+    (&[(1024 + 1, &[0x50])], Some((1, Why::Kind))),
+    (&[(1024 + 2, &[1])], Some((1, Why::Level))),
+    (&[(1024 + 3, &[13])], Some((1, Why::Code))),
+    (&[(1024 + 4, &[0xD0])], Some((1, Why::Code))),
+    (&[(1024 + 4, &[0x10])], Some((1, Why::Reference))),
     (&[(1024 + 4, &[0, 0, 0, 8])], Some((1, Why::Reference))),
-    (&[(1024 + 4, &[0, 0, 0, 2])], Some((2, Why::Kind))),
+    (&[(1024 + 82, &[0x10])], Some((1, Why::Reference))),
+    (&[(1024 + 86, &[0x10])], Some((1, Why::Reference))),
+    (&[(1024 + 68, &[3, 33])], Some((1, Why::Length))),
+    (&[(1024 + 73, &[0])], Some((1, Why::Object))),
+    (&[(1024 + 73, &[2])], Some((1, Why::Object))),
+    (&[(1024 + 81, &[0])], Some((1, Why::Serial))),
+    (&[(1024 + 90, &[17])], Some((1, Why::Member))),
+    (&[(1024 + 99, &[1])], Some((1, Why::Zero))),
+    (&[(1024 + 219, &[1])], Some((1, Why::Zero))),
+    (&[(1024 + 1023, &[1])], Some((1, Why::Zero))),
     (&[(1024 + 82, &[0, 0, 0, 1])], Some((1, Why::Seen))),
+    // It is not the last one, and names a member.
     (
         &[(1024 + 90, &[1, 0, 0, 0, 2, 0, 0, 0, 5])],
         Some((1, Why::Member)),
@@ -45,12 +90,64 @@ const CASES: [(&[Patch], Option<(u32, Why)>); 20] = [
     (&[(4096 + 81, &[3])], Some((4, Why::Serial))),
     (&[(4096 + 89, &[2])], Some((4, Why::Base))),
     (&[(4096 + 3, &[0])], Some((4, Why::Code))),
+    (&[(4096 + 82, &[0, 0, 0, 8])], Some((4, Why::Reference))),
     // A page that was not copied is that of the version before, which has none.
     (&[(4096 + 4, &[0, 0, 0, 6])], Some((4, Why::Reference))),
     (&[(4096 + 4, &[0x10, 0, 0, 6])], Some((6, Why::Closed))),
+];
+
+/// Causes of members and of the versions that they name.
+const MEMBER_CASES: [Case; 14] = [
+    // No object, no block, and a block that is too great.
+    (&[(3072 + 94, &[0])], Some((3, Why::Member))),
+    (&[(3072 + 98, &[0])], Some((3, Why::Member))),
+    (&[(3072 + 95, &[0x10])], Some((3, Why::Member))),
+    // The top itself, a file that is not live, and none that there may be.
     (&[(3072 + 94, &[3])], Some((3, Why::Member))),
+    (&[(3072 + 94, &[4])], Some((3, Why::Member))),
+    (&[(3072 + 93, &[1])], Some((3, Why::Member))),
+    (&[(3072 + 98, &[8])], Some((3, Why::Reference))),
     (&[(3072 + 98, &[4])], Some((4, Why::Seen))),
+    (&[(5120 + 73, &[1])], Some((5, Why::Object))),
+    (&[(5120 + 81, &[3])], Some((5, Why::Serial))),
+    (&[(5120 + 89, &[1])], Some((5, Why::Base))),
+    (&[(5120 + 3, &[0])], Some((5, Why::Code))),
     (&[(5120 + 82, &[0, 0, 0, 6])], Some((5, Why::Member))),
+    (
+        &[(5120 + 90, &[1, 0, 0, 0, 1, 0, 0, 0, 4])],
+        Some((5, Why::Member)),
+    ),
+];
+
+/// Causes of a page below the root.
+const PAGE_CASES: [Case; 9] = [
+    (&[], None),
+    (&[(6144 + 1, &[0x56])], Some((6, Why::Kind))),
+    (&[(6144 + 2, &[0])], Some((6, Why::Level))),
+    (&[(6144 + 2, &[2])], Some((6, Why::Level))),
+    (&[(6144 + 3, &[1])], Some((6, Why::Code))),
+    (&[(6144 + 4, &[0, 0, 0, 7])], Some((6, Why::Reference))),
+    (&[(6144 + 4, &[0x10, 0, 0, 6])], Some((6, Why::Seen))),
+    (&[(6144 + 68, &[3, 33])], Some((6, Why::Length))),
+    (&[(6144 + 70, &[1])], Some((6, Why::Zero))),
+];
+
+/// Causes of a table of two blocks.
+const PART_CASES: [Case; 14] = [
+    (&[], None),
+    (&[(7168, &[0])], Some((7, Why::Closed))),
+    (&[(7168 + 1, &[0x50])], Some((7, Why::Kind))),
+    (&[(7168 + 2, &[1])], Some((7, Why::Index))),
+    (&[(7168 + 16, &[0x10])], Some((7, Why::Reference))),
+    (&[(7168 + 19, &[8])], Some((7, Why::Reference))),
+    (&[(7168 + 23, &[0])], Some((7, Why::Generation))),
+    (&[(7168 + 47, &[1])], Some((7, Why::Secret))),
+    (&[(7168 + 3, &[1])], Some((7, Why::Zero))),
+    (&[(7168 + 16, &[0; 8])], Some((7, Why::Empty))),
+    (&[(7168 + 19, &[7])], Some((7, Why::Seen))),
+    (&[(19, &[8])], Some((0, Why::Reference))),
+    (&[(23, &[7])], Some((7, Why::Seen))),
+    (&[(272, &[1])], Some((0, Why::Zero))),
 ];
 
 fn put(half: &mut Vec<u8>, at: usize, bytes: &[u8])
@@ -81,7 +178,7 @@ fn copy_block(half: &mut Vec<u8>, from: usize, to: usize)
     }
 }
 
-fn half_with(alloc: Global, patches: &[Patch]) -> Result<Vec<u8>, AllocError>
+fn half_with(alloc: Global, base: &[Patch], patches: &[Patch]) -> Result<Vec<u8>, AllocError>
     ensures { IfOk result (λ half. length half.items ≡ 1024 * 8) }
 {
     let mut half = fresh_image(alloc, 3, 8, 7)?;
@@ -89,19 +186,20 @@ fn half_with(alloc: Global, patches: &[Patch]) -> Result<Vec<u8>, AllocError>
     copy_block(&mut half, 1024, 4096);
     copy_block(&mut half, 2048, 5120);
     put_all(&mut half, &HISTORY);
+    put_all(&mut half, base);
     put_all(&mut half, patches);
     Ok(half)
 }
 
-fn pair_with(alloc: Global, patches: &[Patch]) -> Result<Pair<MemDrives>, Fail> {
-    let a = half_with(alloc, patches)?;
-    let b = half_with(alloc, patches)?;
+fn pair_with(alloc: Global, base: &[Patch], patches: &[Patch]) -> Result<Pair<MemDrives>, Fail> {
+    let a = half_with(alloc, base, patches)?;
+    let b = half_with(alloc, base, patches)?;
     Ok(Pair::over(MemDrives::of_halves(alloc, a, b)?))
 }
 
 /// Why a store with these bytes is refused.
-fn refused(alloc: Global, patches: &[Patch]) -> Result<Option<CheckRefused>, Fail> {
-    let pair = pair_with(alloc, patches)?;
+fn refused(alloc: Global, base: &[Patch], patches: &[Patch]) -> Result<Option<CheckRefused>, Fail> {
+    let pair = pair_with(alloc, base, patches)?;
     let (_pair, checked) = check(alloc, pair);
     Ok(checked.err())
 }
@@ -116,13 +214,22 @@ fn bad(cause: &Option<(u32, Why)>) -> Result<Option<CheckRefused>, Fail> {
     }
 }
 
-#[test]
-fn each_cause_is_found(rt: HostRuntime) -> Result<(), Fail> {
-    'cases: for (patches, cause) in &CASES {
-        let found = refused(rt.alloc(), patches)?;
+fn are_found(rt: &impl Abort, alloc: Global, base: &[Patch], cases: &[Case]) -> Result<(), Fail> {
+    'cases: for (patches, cause) in cases {
+        let found = refused(alloc, base, patches)?;
         assert_eq!(rt; found, bad(cause)?);
     }
     Ok(())
+}
+
+#[test]
+fn each_cause_is_found(rt: HostRuntime) -> Result<(), Fail> {
+    let alloc = rt.alloc();
+    are_found(&rt, alloc, &[], &TABLE_CASES)?;
+    are_found(&rt, alloc, &[], &VERSION_CASES)?;
+    are_found(&rt, alloc, &[], &MEMBER_CASES)?;
+    are_found(&rt, alloc, &PAGE, &PAGE_CASES)?;
+    are_found(&rt, alloc, &PARTS, &PART_CASES)
 }
 
 /// What is kept of a file: the block of its last version, the serial of its first one, the block of the version whose link to the
@@ -174,7 +281,7 @@ fn kept_of(chain: &Option<Chain>) -> Option<Kept> {
 #[test]
 fn what_is_kept_of_each_file(rt: HostRuntime) -> Result<(), Fail> {
     'cases: for (patches, kept, free) in &KEPT {
-        let pair = pair_with(rt.alloc(), patches)?;
+        let pair = pair_with(rt.alloc(), &[], patches)?;
         let (_pair, checked) = check(rt.alloc(), pair);
         let checked = checked?;
         assert_eq!(rt; checked.map.free(), *free);
