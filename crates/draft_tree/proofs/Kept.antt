@@ -1,24 +1,23 @@
 -- What every draft keeps, call by call: `/` is live, each page has the level of its path, and what was written lies on few ways.
-use Rattle.std.proofs.Common.{◌≡◌, ℕ, ◌+◌, ◌^◌, ◌<◌, ◌≤◌, Bool, true, false, not, ◌&&◌, ◌||◌, cond, nat_eq, List, [], ◌∷◌, ◌++◌, length, ◌⊎◌, inl, inr, refl, sym, ap, subst, ◌∙◌, Option, Some, None, option_map, arith}
+use Rattle.std.proofs.Common.{◌≡◌, ℕ, ◌+◌, ◌^◌, Bool, true, false, not, ◌&&◌, cond, List, [], ◌∷◌, ◌++◌, length, ◌⊎◌, inl, inr, refl, sym, ap, subst, ◌∙◌, Option, Some, None, option_map, arith}
 use Rattle.std.proofs.Math.Logic.{∥∥₁_elim}
 use Rattle.std.specs.Option.{option_map_or}
 use Rattle.std.specs.List.{list_any}
-use Rattle.std.specs.Cmp.{first_so, second_so}
+use Rattle.std.specs.Cmp.{second_so}
 use Rattle.std.specs.Int.RustNames.{bit_or}
 use Rattle.afs_base.specs.Path.{is_prefix}
 use Rattle.afs_base.specs.declared.kind.Kind.{Kind}
 use Rattle.afs_base.specs.declared.kind.Kind.TheVariants.{Data, Slot}
 use Rattle.tree_model.specs.Accesses.{target, all_writes}
 use Rattle.tree_model.specs.Children.{path_of}
-use Rattle.tree_model.specs.Trees.{Tree, tree_after}
+use Rattle.tree_model.specs.Trees.{tree_after}
 use Rattle.tree_model.specs.declared.step.Step.{Step}
 use Rattle.tree_model.specs.declared.step.Step.TheVariants.{ReadAt, ListAt, WriteAt, MakeAt, DropAt}
 use Rattle.tree_model.proofs.Paths.{told, never, same_is, prefix_self, prefix_above, child_not_root, or_left, or_right, or_told}
 use Rattle.page_codec.specs.Values.{PageValue}
-use Rattle.draft_model.specs.Places.{Store, same, has_bit}
-use Rattle.draft_model.specs.Views.{Copied, View, PageCopy, copy_of, copies, live, writes_kind, Wants}
+use Rattle.draft_model.specs.Places.{same, has_bit}
+use Rattle.draft_model.specs.Views.{Copied, View, PageCopy, copy_of, copies, live, writes_kind}
 use Rattle.draft_model.specs.Steps.{acts, cuts, page_by, taken, is_made, made, stepped, fed_page, fed, begun}
-use Rattle.draft_model.specs.Stands.{StandsFor}
 use Rattle.draft_model.specs.Told.{WroteAt}
 use Rattle.draft_model.proofs.Facts.{and_false, has_bit_none}
 use Rattle.draft_model.proofs.Ways.{slot_case}

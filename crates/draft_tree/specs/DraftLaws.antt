@@ -1,5 +1,5 @@
 -- What every draft keeps has one proof, and means that few paths are fresh.
-use Rattle.std.specs.Prelude.{◌≡◌, ℕ, zero, suc, ◌+◌, ◌*◌, ◌<◌, ◌≤◌, Bool, true, false, ◌||◌, nat_eq, List, [], ◌∷◌, ◌++◌, take, length, ◌⊎◌}
+use Rattle.std.specs.Prelude.{◌≡◌, ℕ, zero, suc, ◌*◌, ◌<◌, ◌≤◌, Bool, true, false, ◌||◌, nat_eq, List, [], ◌∷◌, ◌++◌, take, length, ◌⊎◌}
 use Rattle.std.specs.List.{list_any}
 use Rattle.std.specs.Coded.{Π_prop, le_prop, coded_ℕ, Coded-set}
 use Rattle.std.proofs.Common.{inl, inr, refl, sym, ap, ◌∙◌, arith, length-append, eqb-true}
@@ -10,7 +10,6 @@ use Rattle.tree_model.proofs.Paths.{told, never, same_self, prefix_append, prefi
 use Rattle.draft_model.specs.Places.{same}
 use Rattle.draft_model.specs.Views.{View}
 use Rattle.draft_model.specs.Told.{is_one_of}
-use Rattle.draft_model.specs.Flush.{AreSomeFresh}
 use Rattle.draft_model.proofs.Few.{no_longer}
 use Rattle.draft_tree.specs.Drafts.{HasLevels, IsWrittenOnWays, HasFewFresh}
 
