@@ -1,1 +1,6 @@
 pub mod Mends
+pub mod Heads
+pub mod Links
+pub mod Tops
+pub mod Rolls
+pub mod Writes

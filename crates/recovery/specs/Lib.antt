@@ -1,2 +1,3 @@
 pub mod Mended
 pub mod Opening
+pub mod Rolling
