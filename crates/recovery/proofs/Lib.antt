@@ -4,3 +4,4 @@ pub mod Links
 pub mod Tops
 pub mod Rolls
 pub mod Writes
+pub mod Commits

@@ -10,6 +10,10 @@ use Rattle.pair_store.specs.Blocks.{SameContents}
 use Rattle.pair_store.specs.Faults.{IsStopped, IsUnread}
 use Rattle.pair_store.specs.declared.fault.PairFault.{PairFault}
 use Rattle.pair_store.specs.declared.fault.PairFault.TheVariants.{ReadFault as Unread, WriteFault as Unwritten, BothClosed, BadPage}
+use Rattle.pair_store.specs.Answers.{IsReadFault}
+use Rattle.pair_store.specs.Blocks.{OldOrNew, SameOthers}
+use Rattle.page_codec.specs.Values.{VersionValue}
+use Rattle.page_codec.specs.Causes.{version_of}
 use Rattle.store_check.proofs.ReadOnly.{failed_before}
 use Rattle.store_model.specs.Found.{found}
 use Rattle.store_model.proofs.Edits.{none_some}
@@ -63,6 +67,31 @@ failed_since early faults faults_after last_after moment N M h le to is =
       failed = failed_before (early h) (faults h) (faults_after h) (last_after h) le is.failed;
       last = elim is.last [ inl last ↦ inl last | inr (stood, none) ↦ inr (stood, to none) ];
     }
+
+-- the images of reads
+pub read_images : {D : Type 0} (moment : D → ℕ) (may_leave : D → ℕ → (ℕ → Option (List ℕ)) → Type 0) (most : ℕ) (a b : D) → Changes moment may_leave a b SameContents → Changes moment may_leave a b (SameFound most)
+read_images moment may_leave most a b changes = weaker moment may_leave a b SameContents (SameFound most) changes (λ f g left q. ap (λ c. found c most) (fun_ext q))
+
+-- a version page in a block that is settled
+pub record PageAt (c : ℕ → Option (List ℕ)) (s : ℕ → Type 0) (n : ℕ) : Type 0 where
+  pub body : List ℕ
+  pub holds : c n ≡ Some body
+  pub page : VersionValue
+  pub reads : version_of body ≡ Ok page
+  pub settled : s n
+
+-- a read of a block that has content fails for a half alone
+pub read_fails : (fault : PairFault) (n : ℕ) (c : ℕ → Option (List ℕ)) (body : List ℕ) → IsReadFault n fault → c n ≡ Some body → (fault ≡ BothClosed n → c n ≡ None) → IsHalfFailed (refused_call fault)
+read_fails (Unread h) n c body only holds closed = tt
+read_fails (Unwritten h) n c body only holds closed = absurd only
+read_fails (BothClosed m) n c body only holds closed = none_some (sym (closed (ap BothClosed only)) ∙ holds)
+read_fails (BadPage m why) n c body only holds closed = absurd only
+
+pub never_written : {A : Type 0} (fault : PairFault) (n : ℕ) (h : Half) → IsReadFault n fault → fault ≡ Unwritten h → A
+never_written (Unread half) n h only e = absurd cc
+never_written (Unwritten half) n h only e = absurd only
+never_written (BothClosed m) n h only e = absurd cc
+never_written (BadPage m why) n h only e = absurd only
 
 module _ {D : Type 0} (tells : Type 0) (size moment : D → ℕ) (content : D → ℕ → Option (List ℕ)) (may_leave : D → ℕ → (ℕ → Option (List ℕ)) → Type 0) (settled settled_always : D → ℕ → Type 0) (faults last_fault : D → Half → ℕ) (most : ℕ) where
   -- nothing was called
@@ -118,8 +147,8 @@ module _ {D : Type 0} (tells : Type 0) (size moment : D → ℕ) (content : D �
   }
 
   -- A call on a block failed, for a half alone where the block has content.
-  pub rolls_failed : {T : Type 0} (From To : State) (n : ℕ) (body : List ℕ) (fault : PairFault) (a b : D)
-      → (tells → From (content a) (settled a) → (content a n ≡ Some body) × settled a n)
+  pub rolls_failed : {T : Type 0} (From To : State) (n : ℕ) (fault : PairFault) (a b : D)
+      → (tells → From (content a) (settled a) → PageAt (content a) (settled a) n)
       → (tells → From (content a) (settled a) → IsHalfFailed (refused_call fault))
       → (tells → From (content a) (settled a) → NoWriteFailed (refused_call fault) → SameContents (content a) (content b))
       → (tells → From (content a) (settled_always a) → Changes moment may_leave a b (SameFound most))
@@ -128,24 +157,20 @@ module _ {D : Type 0} (tells : Type 0) (size moment : D → ℕ) (content : D �
       → ((h : Half) → (faults a h ≤ faults b h) × (last_fault a h ≤ last_fault b h))
       → size b ≡ size a
       → Rolls tells size moment content may_leave settled settled_always faults last_fault most From To (let q : Result T OpenRefused = Err (refused_call fault) in q) a b
-  rolls_failed {T} From To n body fault a b holds only quiet images unread stopped later size_same = record {
+  rolls_failed {T} From To n fault a b at only quiet images unread stopped later size_same = record {
     goes = λ told from. tt;
     goes_always = λ told from. tt;
     only = only;
     same = λ told from untorn. ap (λ c. found c most) (fun_ext (quiet told from untorn));
     images = images;
     unread = λ h is. unread_failed (faults a) (faults b) (last_fault b) (moment b) (tells → settled a n → content a n ≡ None) (tells → From (content a) (settled a) → ⊥) h
-        (λ empty told from. let p = holds told from in none_some (sym (empty told p.1) ∙ p.0))
+        (λ empty told from. let p = at told from in none_some (sym (empty told p.settled) ∙ p.holds))
         (unread h (fault_read fault h (same_err {T = T} (refused_call fault) (ReadFault h) is)));
     unwritten = λ h is. stopped_failed (faults a) (faults b) (last_fault b) (moment b) ⊥ h
         (stopped h (fault_write fault h (same_err {T = T} (refused_call fault) (WriteFault h) is)));
     later = later;
     size_same = size_same;
   }
-
-  -- the images of reads
-  pub read_images : (a b : D) → Changes moment may_leave a b SameContents → Changes moment may_leave a b (SameFound most)
-  read_images a b changes = weaker moment may_leave a b SameContents (SameFound most) changes (λ f g left q. ap (λ c. found c most) (fun_ext q))
 
   -- a block was read
   pub rolls_read : {T : Type 0} (From : State) (n : ℕ) (body : List ℕ) (x : T) (a b : D)
@@ -171,9 +196,45 @@ module _ {D : Type 0} (tells : Type 0) (size moment : D → ℕ) (content : D �
     );
     only = λ told from. tt;
     same = λ told from untorn. ap (λ c. found c most) (fun_ext (same told));
-    images = λ told from. read_images a b images;
+    images = λ told from. read_images moment may_leave most a b images;
     unread = λ h is. never_err x (ReadFault h) is;
     unwritten = λ h is. never_err x (WriteFault h) is;
     later = later;
     size_same = size_same;
   }
+
+  -- A block is written: what is found stays with the old bytes and with the new ones.
+  module _ (From To : State) (n : ℕ) (body : List ℕ) (a b : D)
+      (more : (c : ℕ → Option (List ℕ)) (s t : ℕ → Type 0) → ((k : ℕ) → s k → t k) → From c s → From c t)
+      (at : (c : ℕ → Option (List ℕ)) (s : ℕ → Type 0) → From c s → s n)
+      (images_as : (c x y : ℕ → Option (List ℕ)) (s : ℕ → Type 0) → From c s → ((k : ℕ) → s k → x k ≡ c k) → OldOrNew n body x y → found y most ≡ found x most)
+      (left : tells → (k : ℕ) (f : ℕ → Option (List ℕ)) → settled_always a k → may_leave a (moment a) f → f k ≡ content a k)
+      (images : tells → From (content a) (settled_always a) → settled_always a n → Changes moment may_leave a b (OldOrNew n body)) where
+    pub wrote_images : tells → From (content a) (settled_always a) → Changes moment may_leave a b (SameFound most)
+    wrote_images told from =
+        weaker moment may_leave a b (OldOrNew n body) (SameFound most) (images told from (at (content a) (settled_always a) from))
+        (λ x y may change. images_as (content a) x y (settled_always a) from (λ k s. left told k x s may) change)
+
+    pub rolls_wrote : {T : Type 0} (x : T)
+        → (tells → From (content a) (settled a) → content b n ≡ Some body)
+        → (tells → SameOthers n (content a) (content b))
+        → (tells → (k : ℕ) → settled a k → settled b k)
+        → (tells → (k : ℕ) → settled_always a k → settled_always b k)
+        → (tells → (k : ℕ) → settled_always a k → settled a k)
+        → ((c d : ℕ → Option (List ℕ)) (s t : ℕ → Type 0) → From c s → d n ≡ Some body → SameOthers n c d → ((k : ℕ) → s k → t k) → To d t)
+        → ((c d : ℕ → Option (List ℕ)) (s : ℕ → Type 0) → From c s → d n ≡ Some body → SameOthers n c d → found d most ≡ found c most)
+        → ((h : Half) → (faults a h ≤ faults b h) × (last_fault a h ≤ last_fault b h))
+        → size b ≡ size a
+        → Rolls tells size moment content may_leave settled settled_always faults last_fault most From To (let q : Result T OpenRefused = Ok x in q) a b
+    rolls_wrote x written others settles settles_always now to found_as later size_same = record {
+      goes = λ told from. to (content a) (content b) (settled a) (settled b) from (written told from) (others told) (settles told);
+      goes_always = λ told from. to (content a) (content b) (settled_always a) (settled_always b) from
+          (written told (more (content a) (settled_always a) (settled a) (now told) from)) (others told) (settles_always told);
+      only = λ told from. tt;
+      same = λ told from untorn. found_as (content a) (content b) (settled a) from (written told from) (others told);
+      images = λ told from. wrote_images told from;
+      unread = λ h is. never_err x (ReadFault h) is;
+      unwritten = λ h is. never_err x (WriteFault h) is;
+      later = later;
+      size_same = size_same;
+    }

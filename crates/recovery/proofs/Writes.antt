@@ -6,7 +6,7 @@ use Rattle.page_codec.specs.Values.{VersionValue}
 use Rattle.page_codec.specs.Causes.{version_of}
 use Rattle.page_codec.proofs.FrameLaws.{IsBlock}
 use Rattle.pair_store.specs.Blocks.{OldOrNew, SameOthers}
-use Rattle.pair_store.specs.Answers.{HasCommit, HasVersion, HasNoVersion, IsTested, IsCleared}
+use Rattle.pair_store.specs.Answers.{HasCommit, HasVersion, HasNoVersion, IsTested, IsCleared, IsRefused, LeftAlone}
 use Rattle.pair_store.specs.ContentLaws.{decide}
 use Rattle.pair_store.specs.Pages.{with_commit as commit_bytes, without_members as cleared_bytes}
 use Rattle.pair_store.specs.declared.fault.PairFault.{PairFault}
@@ -22,18 +22,24 @@ use Rattle.store_model.proofs.SettingLinks.{linking_keeps}
 use Rattle.store_model.proofs.Clearing.{clearing_keeps}
 use Rattle.store_check.specs.declared.chain.Chain.{Chain}
 use Rattle.store_check.specs.Files.{chains_of}
-use Rattle.recovery.specs.Opening.{refused_call}
+use Rattle.recovery.specs.Opening.{NoWriteFailed, refused_call}
 use Rattle.recovery.specs.Rolling.{Stands, RollingLinks, RollingTops, IsHalfFailed}
+use Rattle.recovery.proofs.Rolls.{PageAt}
 use Rattle.recovery.proofs.Links.{laid_again, LinkPage, link_page, LinkAt, link_at, link_on, set_found}
 use Rattle.recovery.proofs.Tops.{TopPage, top_page, TopAt, top_at, top_on, clear_found}
 
--- the version page in a block of the store, which is settled
-pub record PageAt (c : Content) (s : ℕ → Type 0) (n : ℕ) : Type 0 where
-  pub body : List ℕ
-  pub holds : c n ≡ Some body
-  pub page : VersionValue
-  pub reads : version_of body ≡ Ok page
-  pub settled : s n
+abbrev more_stands : (most : ℕ) (before : LaidStore) (places : List ℕ) (c : Content) (s t : ℕ → Type 0) → ((n : ℕ) → s n → t n) → Stands c s most before places → Stands c t most before places
+more_stands most before places c s t to r =
+    record { store = r.store; order = r.order; laid = r.laid; same = r.same; like = r.like; table = to 0 r.table; each = λ n low. to n (r.each n low) }
+
+-- a state is one whatever else is settled
+pub more_links : (most : ℕ) (before : LaidStore) (places : List ℕ) (k : ℕ) (c : Content) (s t : ℕ → Type 0) → ((n : ℕ) → s n → t n) → RollingLinks c s most before places k → RollingLinks c t most before places k
+more_links most before places k c s t to r =
+    record { stands = more_stands most before places c s t to r.stands; lasts = r.lasts; ahead = r.ahead; linked = r.linked }
+
+pub more_tops : (most : ℕ) (before : LaidStore) (places : List ℕ) (k : ℕ) (c : Content) (s t : ℕ → Type 0) → ((n : ℕ) → s n → t n) → RollingTops c s most before places k → RollingTops c t most before places k
+more_tops most before places k c s t to r =
+    record { stands = more_stands most before places c s t to r.stands; linked = r.linked; ahead = r.ahead; cleared = r.cleared }
 
 -- a block of a store that stands
 low_here : (before : LaidStore) (c : Content) (s : ℕ → Type 0) (most : ℕ) (places : List ℕ) (st : Stands c s most before places) (n : ℕ) → InRange st.store.root.blocks n → s n
@@ -133,6 +139,19 @@ set_or_failed c n body page (Err (BadPage m why)) holds reads nil (at, (b, here,
   where
     never : Err why ≡ Ok page → ⊥
     never e = cc
+
+-- a call that was refused before its write wrote nothing
+pub left_alone : (fault : PairFault) → NoWriteFailed (refused_call fault) → LeftAlone (Err fault)
+left_alone (Unread h) untorn = tt
+left_alone (Unwritten h) untorn = absurd untorn
+left_alone (BothClosed m) untorn = tt
+left_alone (BadPage m why) untorn = tt
+
+pub refused_before : (T : Type 0) (fault : PairFault) → NoWriteFailed (refused_call fault) → IsRefused (let q : Result T PairFault = Err fault in q)
+refused_before T (Unread h) untorn = tt
+refused_before T (Unwritten h) untorn = absurd untorn
+refused_before T (BothClosed m) untorn = tt
+refused_before T (BadPage m why) untorn = tt
 
 -- ---- clearing members
 

@@ -5,6 +5,7 @@ mod mending;
 mod opened;
 mod opening;
 mod refused;
+mod rolling;
 
 pub use mending::mend_all;
 pub use opened::{Opened, OpenedOver, Unopened, UnopenedOver};
