@@ -206,12 +206,12 @@ abbrev pub ClearedOrFailed : {T : Type 0} → Result T PairFault → Type 0
 ClearedOrFailed (Ok x) = Unit {0}
 ClearedOrFailed (Err fault) = IsHalfFailed (refused_call fault)
 
-pub cleared_or_failed : {T : Type 0} (c : Content) (n : ℕ) (body : List ℕ) (page : VersionValue) (r : Result T PairFault) → c n ≡ Some body → version_of body ≡ Ok page → IsCleared n (c n) r → ClearedOrFailed r
-cleared_or_failed c n body page (Ok x) holds reads is = tt
-cleared_or_failed c n body page (Err (Unread h)) holds reads is = tt
-cleared_or_failed c n body page (Err (Unwritten h)) holds reads is = tt
-cleared_or_failed c n body page (Err (BothClosed m)) holds reads is = none_some (sym is.1 ∙ holds)
-cleared_or_failed c n body page (Err (BadPage m why)) holds reads (at, (b, here, read)) =
+pub cleared_or_failed : (T : Type 0) (c : Content) (n : ℕ) (body : List ℕ) (page : VersionValue) (r : Result T PairFault) → c n ≡ Some body → version_of body ≡ Ok page → IsCleared n (c n) r → ClearedOrFailed r
+cleared_or_failed T c n body page (Ok x) holds reads is = tt
+cleared_or_failed T c n body page (Err (Unread h)) holds reads is = tt
+cleared_or_failed T c n body page (Err (Unwritten h)) holds reads is = tt
+cleared_or_failed T c n body page (Err (BothClosed m)) holds reads is = none_some (sym is.1 ∙ holds)
+cleared_or_failed T c n body page (Err (BadPage m why)) holds reads (at, (b, here, read)) =
     let same : b ≡ body = some_is (sym here ∙ holds) in
     never (sym read ∙ ap version_of same ∙ reads)
   where
