@@ -1,5 +1,5 @@
 -- Links that are outstanding, and what becomes of a store once one of them is set.
-use Rattle.std.proofs.Common.{◌≡◌, ◌≢◌, ℕ, zero, suc, ◌+◌, ◌-◌, ◌<◌, ◌≤◌, ◌^◌, true, nat_eq, List, [], ◌∷◌, ◌++◌, length, ◌⊎◌, inl, inr, Option, Some, None, Ok, option_map, refl, sym, ap, subst, ◌∙◌, append-nil, arith, slice_get, map}
+use Rattle.std.proofs.Common.{◌≡◌, ◌≢◌, ℕ, zero, suc, ◌+◌, ◌-◌, ◌<◌, ◌≤◌, ◌^◌, true, nat_eq, List, [], ◌∷◌, ◌++◌, length, ◌⊎◌, inl, inr, Option, Some, None, Ok, option_map, refl, sym, ap, subst, ◌∙◌, append-nil, arith, slice_get, map, leb-true}
 use Rattle.std.specs.Option.{option_and_then}
 use Rattle.page_codec.specs.Values.{VersionValue}
 use Rattle.page_codec.specs.Causes.{version_of}
@@ -52,6 +52,12 @@ pub laid_again : (c d : Content) (most : ℕ) (store : LaidStore) (places : List
     → laid d most [] ≡ Ok (store, places)
 laid_again c d most store places e table same =
     laid_alike c d most store places e (sym table) (λ n i. sym (same n (places_ranged c most store places e n i).1))
+
+-- the store fits on its halves
+pub laid_fits : (c : Content) (most : ℕ) (store : LaidStore) (places : List ℕ) → laid c most [] ≡ Ok (store, places) → store.root.blocks ≤ most
+laid_fits c most store places e =
+    let p : Parts c most store places = parts_of c most store places e in
+    subst (λ (s : LaidStore). s.root.blocks ≤ most) (sym p.made) (leb-true p.root.blocks most p.few)
 
 -- ---- an outstanding link where it lies
 

@@ -3,7 +3,6 @@ use Rattle.std.proofs.Common.{◌≡◌, inl, inr, ℕ, min, ◌+◌, ◌^◌, �
 use Rattle.std.specs.Prelude.{OnOk, IfErr, IsErrOf}
 use Rattle.std.proofs.Math.Path.{fun_ext}
 use Rattle.drives.specs.declared.device.Half.{Half}
-use Rattle.drives.specs.declared.device.Half.TheVariants.{A, B}
 use Rattle.drives.specs.Changes.{Changes}
 use Rattle.drives.proofs.Composing.{stays, goes_on, leaves_now, weaker}
 use Rattle.pair_store.specs.Blocks.{SameContents}
@@ -12,6 +11,7 @@ use Rattle.pair_store.specs.declared.fault.PairFault.{PairFault}
 use Rattle.pair_store.specs.declared.fault.PairFault.TheVariants.{ReadFault as Unread, WriteFault as Unwritten, BothClosed, BadPage}
 use Rattle.pair_store.specs.Answers.{IsReadFault}
 use Rattle.pair_store.specs.Blocks.{OldOrNew, SameOthers}
+use Rattle.page_codec.specs.declared.why.Why.{Why}
 use Rattle.page_codec.specs.Values.{VersionValue}
 use Rattle.page_codec.specs.Causes.{version_of}
 use Rattle.store_check.proofs.ReadOnly.{failed_before}
@@ -31,6 +31,18 @@ never_err x e is = absurd cc
 
 same_err : {T E : Type 0} (e f : E) → (let r : Result T E = Err e in r) ≡ Err f → e ≡ f
 same_err e f is = cc
+
+no_read : {T P : Type 0} (block : ℕ) (why : Why) (h : Half) → (let r : Result T OpenRefused = Err (BadStore block why) in r) ≡ Err (ReadFault h) → P
+no_read {T} {P} block why h is = other (same_err {T = T} (BadStore block why) (ReadFault h) is)
+  where
+    other : BadStore block why ≡ ReadFault h → P
+    other e = absurd cc
+
+no_write : {T P : Type 0} (block : ℕ) (why : Why) (h : Half) → (let r : Result T OpenRefused = Err (BadStore block why) in r) ≡ Err (WriteFault h) → P
+no_write {T} {P} block why h is = other (same_err {T = T} (BadStore block why) (WriteFault h) is)
+  where
+    other : BadStore block why ≡ WriteFault h → P
+    other e = absurd cc
 
 -- which fault of a block gives which refusal
 pub fault_read : (fault : PairFault) (h : Half) → refused_call fault ≡ ReadFault h → fault ≡ Unread h
@@ -144,6 +156,21 @@ module _ {D : Type 0} (tells : Type 0) (size moment : D → ℕ) (content : D �
     unwritten = λ h is. r.unwritten h (ap Err (same_err {T = T} e (WriteFault h) is));
     later = r.later;
     size_same = r.size_same;
+  }
+
+  -- a refusal that never comes where the state is as it should be
+  pub rolls_bad : (T : Type 0) (From To : State) (block : ℕ) (why : Why) (d : D) → moment d < 2 ^ 64 → (tells → From (content d) (settled d) → ⊥)
+      → Rolls tells size moment content may_leave settled settled_always faults last_fault most From To (let q : Result T OpenRefused = Err (BadStore block why) in q) d d
+  rolls_bad T From To block why d clock never = record {
+    goes = λ told from. tt;
+    goes_always = λ told from. tt;
+    only = λ told from. never told from;
+    same = λ told from untorn. refl;
+    images = λ told from. stays moment may_leave d (SameFound most) clock (λ f. refl);
+    unread = λ h is. no_read {T = T} block why h is;
+    unwritten = λ h is. no_write {T = T} block why h is;
+    later = λ h. (Prim.omega arith, Prim.omega arith);
+    size_same = refl;
   }
 
   -- A call on a block failed, for a half alone where the block has content.

@@ -1,10 +1,12 @@
 // Setting the links that a commit left outstanding, and clearing members after that.
-ghost use Rattle.std.specs.Prelude.{◌≡◌, ℕ, ◌+◌, ◌^◌, ◌<◌, ◌≤◌, List, Option, Some, None, length, slice_get};
+ghost use Rattle.std.specs.Prelude.{◌≡◌, ℕ, ◌+◌, ◌^◌, ◌<◌, ◌≤◌, List, Option, Some, None, Err, length, slice_get};
 ghost use Rattle.std.specs.Option.{option_and_then};
+ghost use Rattle.page_codec.specs.declared.why.Why.TheVariants.{Reference};
 ghost use Rattle.page_codec.specs.Numbers.{IsBytes};
 ghost use Rattle.store_model.specs.Found.{LaidStore};
 ghost use Rattle.store_check.specs.declared.chain.Chain.{Chain};
 ghost use Rattle.store_check.specs.Files.{chains_of};
+ghost use Rattle.recovery.specs.declared.refused.OpenRefused.TheVariants.{BadStore};
 ghost use Rattle.recovery.specs.Rolling.{Rolls, RollingLinks, RollingTops};
 
 use crate::refused::OpenRefused;
@@ -14,7 +16,9 @@ use pair_store::{Block, Blocks};
 use store_check::Chain;
 
 /// The refusal of a block of a store that is none. Where contents are told it never comes.
-fn bad_reference(block: BlockNo) -> Result<(), OpenRefused> {
+fn bad_reference(block: BlockNo) -> Result<(), OpenRefused>
+    ensures { result ≡ Err (BadStore block Reference) }
+{
     Err(OpenRefused::BadStore {
         block,
         why: Why::Reference,
