@@ -1,5 +1,5 @@
 -- What is kept of the versions of a file, and that it stays where a commit reference or members change.
-use Rattle.std.proofs.Common.{◌≡◌, ◌≢◌, ℕ, zero, suc, ◌+◌, ◌-◌, ◌<◌, true, false, List, [], ◌∷◌, length, Option, Some, None, option_map, refl, sym, ap, ◌∙◌, arith, slice_get, map, if◌then◌else◌}
+use Rattle.std.proofs.Common.{◌≡◌, ◌≢◌, ℕ, zero, suc, ◌+◌, ◌-◌, ◌<◌, true, false, List, [], ◌∷◌, length, Option, Some, None, option_map, refl, sym, ap, ◌∙◌, arith, slice_get, get_or, map, if◌then◌else◌}
 use Rattle.std.specs.Option.{is_none}
 use Rattle.std.specs.List.{fold}
 use Rattle.version_chain.specs.declared.head.Head.{Head}
@@ -33,6 +33,12 @@ map_get f (x ∷ xs) (suc k) = map_get f xs k
 pub map_long : {X Y : Type 0} (f : X → Y) (xs : List X) → length (map f xs) ≡ length xs
 map_long f [] = refl
 map_long f (x ∷ xs) = ap (λ n. suc n) (map_long f xs)
+
+-- an item that was indexed
+pub get_is : {X : Type 0} (xs : List X) (i : ℕ) (x : X) → i < length xs → x ≡ get_or xs i x → slice_get xs i ≡ Some x
+get_is [] i x low e = absurd (omega (arith, low))
+get_is (y ∷ ys) zero x low e = ap Some (sym e)
+get_is (y ∷ ys) (suc i) x low e = get_is ys i x (omega (arith, low)) e
 
 -- ---- what is kept of a file
 
