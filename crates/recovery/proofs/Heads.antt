@@ -1,5 +1,5 @@
 -- What is kept of the versions of a file, and that it stays where a commit reference or members change.
-use Rattle.std.proofs.Common.{◌≡◌, ◌≢◌, ℕ, zero, suc, ◌+◌, ◌-◌, ◌<◌, true, false, List, [], ◌∷◌, length, Option, Some, None, option_map, refl, sym, ap, ◌∙◌, arith, slice_get, get_or, map, if◌then◌else◌}
+use Rattle.std.proofs.Common.{◌≡◌, ◌≢◌, ℕ, zero, suc, ◌+◌, ◌-◌, ◌<◌, true, false, List, [], ◌∷◌, ◌++◌, length, length-append, Option, Some, None, option_map, refl, sym, ap, ◌∙◌, arith, slice_get, get_or, map, if◌then◌else◌}
 use Rattle.std.specs.Option.{is_none}
 use Rattle.std.specs.List.{fold}
 use Rattle.version_chain.specs.declared.head.Head.{Head}
@@ -39,6 +39,24 @@ pub get_is : {X : Type 0} (xs : List X) (i : ℕ) (x : X) → i < length xs → 
 get_is [] i x low e = absurd (omega (arith, low))
 get_is (y ∷ ys) zero x low e = ap Some (sym e)
 get_is (y ∷ ys) (suc i) x low e = get_is ys i x (omega (arith, low)) e
+
+-- an item of a list is one of a longer one
+pub get_within : {X : Type 0} (xs ys : List X) (j : ℕ) → j < length xs → slice_get (xs ++ ys) j ≡ slice_get xs j
+get_within [] ys j low = absurd (omega (arith, low))
+get_within (x ∷ xs) ys zero low = refl
+get_within (x ∷ xs) ys (suc j) low = get_within xs ys j (omega (arith, low))
+
+pub length_more : {X : Type 0} (xs : List X) (x : X) → length (xs ++ x ∷ []) ≡ length xs + 1
+length_more xs x = length-append xs (x ∷ [])
+
+-- lists with the same items are the same
+pub same_items : {X : Type 0} (xs ys : List X) → length xs ≡ length ys → ((j : ℕ) → j < length xs → slice_get xs j ≡ slice_get ys j) → xs ≡ ys
+same_items [] [] long same = refl
+same_items [] (y ∷ ys) long same = absurd (omega (arith, long))
+same_items (x ∷ xs) [] long same = absurd (omega (arith, long))
+same_items (x ∷ xs) (y ∷ ys) long same =
+    let head : x ≡ y = some_is (same 0 (omega arith)) in
+    ap (λ z. z ∷ xs) head ∙ ap (λ l. y ∷ l) (same_items xs ys (omega (arith, long)) (λ j low. same (suc j) (omega (arith, low))))
 
 -- ---- what is kept of a file
 

@@ -1,6 +1,7 @@
 //! Opening a store on two halves: mending its blocks, checking what they hold, and setting the links that a commit left outstanding.
 #![tactic(auto)]
 
+mod known;
 mod mending;
 mod opened;
 mod opening;

@@ -80,7 +80,7 @@ fn link_file<B: Blocks>(store: &mut B, chain: &Option<Chain>) -> Result<(), Open
 }
 
 /// Sets all links that are outstanding.
-pub fn set_links<B: Blocks>(store: &mut B, chains: &[Option<Chain>]) -> Result<(), OpenRefused>
+fn set_links<B: Blocks>(store: &mut B, chains: &[Option<Chain>]) -> Result<(), OpenRefused>
     ensures { (most : ℕ) (before : LaidStore) (places : List ℕ) → most ≤ B.size store.old → chains.now ≡ chains_of before.files
         → Rolls B.tells B.size B.moment B.content B.may_leave B.settled B.settled_always B.faults B.last_fault most
         (λ c s. RollingLinks c s most before places 0) (λ c s. RollingLinks c s most before places (length chains.now)) result store.old store.new }
@@ -138,7 +138,7 @@ fn clear_file<B: Blocks>(store: &mut B, chain: &Option<Chain>) -> Result<(), Ope
 }
 
 /// Clears the members of each last version. The links are to be set by then.
-pub fn clear_tops<B: Blocks>(store: &mut B, chains: &[Option<Chain>]) -> Result<(), OpenRefused>
+fn clear_tops<B: Blocks>(store: &mut B, chains: &[Option<Chain>]) -> Result<(), OpenRefused>
     ensures { (most : ℕ) (before : LaidStore) (places : List ℕ) → most ≤ B.size store.old → chains.now ≡ chains_of before.files
         → Rolls B.tells B.size B.moment B.content B.may_leave B.settled B.settled_always B.faults B.last_fault most
         (λ c s. RollingTops c s most before places 0) (λ c s. RollingTops c s most before places (length chains.now)) result store.old store.new }
@@ -147,4 +147,14 @@ pub fn clear_tops<B: Blocks>(store: &mut B, chains: &[Option<Chain>]) -> Result<
         clear_file(store, &chains[i])?;
     }
     Ok(())
+}
+
+/// Rolls a commit forward that was cut off: sets all links that are outstanding, and then clears the members.
+pub fn roll_forward<B: Blocks>(store: &mut B, chains: &[Option<Chain>]) -> Result<(), OpenRefused>
+    ensures { (most : ℕ) (before : LaidStore) (places : List ℕ) → most ≤ B.size store.old → chains.now ≡ chains_of before.files
+        → Rolls B.tells B.size B.moment B.content B.may_leave B.settled B.settled_always B.faults B.last_fault most
+        (λ c s. RollingLinks c s most before places 0) (λ c s. RollingTops c s most before places (length chains.now)) result store.old store.new }
+{
+    set_links(store, chains)?;
+    clear_tops(store, chains)
 }
