@@ -5,3 +5,4 @@ pub mod Tops
 pub mod Rolls
 pub mod Writes
 pub mod Commits
+pub mod KnownLaws
