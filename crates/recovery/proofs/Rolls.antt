@@ -20,7 +20,7 @@ use Rattle.store_model.proofs.Edits.{none_some}
 use Rattle.recovery.specs.declared.refused.OpenRefused.{OpenRefused}
 use Rattle.recovery.specs.declared.refused.OpenRefused.TheVariants.{ReadFault, WriteFault, BadStore, Memory}
 use Rattle.recovery.specs.Opening.{IsFailed, NoWriteFailed, SameFound, refused_call}
-use Rattle.recovery.specs.Rolling.{IsHalfFailed, Rolls}
+use Rattle.recovery.specs.Rolling.{IsHalfFailed, Never, Rolls}
 
 -- a state: what is told of contents, and of which blocks are settled
 abbrev pub State : Type 1
@@ -156,6 +156,42 @@ module _ {D : Type 0} (tells : Type 0) (size moment : D → ℕ) (content : D �
     unwritten = λ h is. r.unwritten h (ap Err (same_err {T = T} e (WriteFault h) is));
     later = r.later;
     size_same = r.size_same;
+  }
+
+  -- calls of which nothing is said but when a half failed: one that went well, and one that failed
+  pub never_ok : (T : Type 0) (x : T) (a b : D) → ((h : Half) → (faults a h ≤ faults b h) × (last_fault a h ≤ last_fault b h)) → size b ≡ size a
+      → Rolls tells size moment content may_leave settled settled_always faults last_fault most Never Never (let q : Result T OpenRefused = Ok x in q) a b
+  never_ok T x a b later size_same = record {
+    goes = λ told from. absurd from;
+    goes_always = λ told from. absurd from;
+    only = λ told from. absurd from;
+    same = λ told from untorn. absurd from;
+    images = λ told from. absurd from;
+    unread = λ h is. never_err x (ReadFault h) is;
+    unwritten = λ h is. never_err x (WriteFault h) is;
+    later = later;
+    size_same = size_same;
+  }
+
+  pub never_failed : (T : Type 0) (fault : PairFault) (a b : D)
+      → (N : Half → Type 0)
+      → ((h : Half) → fault ≡ Unread h → IsUnread (faults a) (faults b) (last_fault b) (moment b) (N h) h)
+      → ((h : Half) → fault ≡ Unwritten h → IsStopped (faults a) (faults b) (last_fault b) (moment b) h)
+      → ((h : Half) → (faults a h ≤ faults b h) × (last_fault a h ≤ last_fault b h))
+      → size b ≡ size a
+      → Rolls tells size moment content may_leave settled settled_always faults last_fault most Never Never (let q : Result T OpenRefused = Err (refused_call fault) in q) a b
+  never_failed T fault a b N unread stopped later size_same = record {
+    goes = λ told from. tt;
+    goes_always = λ told from. tt;
+    only = λ told from. absurd from;
+    same = λ told from untorn. absurd from;
+    images = λ told from. absurd from;
+    unread = λ h is. unread_failed (faults a) (faults b) (last_fault b) (moment b) (N h) (tells → Never (content a) (settled a) → ⊥) h
+        (λ empty told from. from) (unread h (fault_read fault h (same_err {T = T} (refused_call fault) (ReadFault h) is)));
+    unwritten = λ h is. stopped_failed (faults a) (faults b) (last_fault b) (moment b) ⊥ h
+        (stopped h (fault_write fault h (same_err {T = T} (refused_call fault) (WriteFault h) is)));
+    later = later;
+    size_same = size_same;
   }
 
   -- a refusal that never comes where the state is as it should be

@@ -70,3 +70,7 @@ pub record Rolls {D T : Type 0} (tells : Type 0) (size moment : D → ℕ) (cont
   pub unwritten : (h : Half) → IsErrOf result (WriteFault h) → IsFailed (faults before) (faults after) (last_fault after) (moment after) ⊥ h
   pub later : (h : Half) → (faults before h ≤ faults after h) × (last_fault before h ≤ last_fault after h)
   pub size_same : size after ≡ size before
+
+-- No state: of a call that begins so nothing is said but when a half failed, which holds whether or not contents are told.
+abbrev pub Never : (ℕ → Option (List ℕ)) → (ℕ → Type 0) → Type 0
+Never content settled = ⊥

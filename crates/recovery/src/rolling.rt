@@ -7,7 +7,7 @@ ghost use Rattle.store_model.specs.Found.{LaidStore};
 ghost use Rattle.store_check.specs.declared.chain.Chain.{Chain};
 ghost use Rattle.store_check.specs.Files.{chains_of};
 ghost use Rattle.recovery.specs.declared.refused.OpenRefused.TheVariants.{BadStore};
-ghost use Rattle.recovery.specs.Rolling.{Rolls, RollingLinks, RollingTops};
+ghost use Rattle.recovery.specs.Rolling.{Never, Rolls, RollingLinks, RollingTops};
 
 use crate::refused::OpenRefused;
 use afs_base::BlockNo;
@@ -35,10 +35,11 @@ fn set_commit<B: Blocks>(store: &mut B, base: BlockNo, next: BlockNo) -> Result<
     requires block { base < B.size store.old }
     requires named { 0 < next }
     requires word { next < 2 ^ 28 }
-    ensures { (most : ℕ) (before : LaidStore) (places : List ℕ) (k : ℕ) (chain : Chain)
+    ensures rolls { (most : ℕ) (before : LaidStore) (places : List ℕ) (k : ℕ) (chain : Chain)
         → slice_get (chains_of before.files) k ≡ Some (Some chain) → chain.unset ≡ Some base → chain.last.block ≡ next
         → Rolls B.tells B.size B.moment B.content B.may_leave B.settled B.settled_always B.faults B.last_fault most
         (λ c s. RollingLinks c s most before places k) (λ c s. RollingLinks c s most before places (k + 1)) result store.old store.new }
+    ensures fails { Rolls B.tells B.size B.moment B.content B.may_leave B.settled B.settled_always B.faults B.last_fault 0 Never Never result store.old store.new }
 {
     let mut block = [0; 1024];
     store.read(base, &mut block)?;
@@ -49,10 +50,11 @@ fn set_commit<B: Blocks>(store: &mut B, base: BlockNo, next: BlockNo) -> Result<
 
 /// Sets the link of a file that is outstanding, where both blocks are blocks of a store.
 fn set_link<B: Blocks>(store: &mut B, base: BlockNo, next: BlockNo) -> Result<(), OpenRefused>
-    ensures { (most : ℕ) (before : LaidStore) (places : List ℕ) (k : ℕ) (chain : Chain)
+    ensures rolls { (most : ℕ) (before : LaidStore) (places : List ℕ) (k : ℕ) (chain : Chain)
         → most ≤ B.size store.old → slice_get (chains_of before.files) k ≡ Some (Some chain) → chain.unset ≡ Some base → chain.last.block ≡ next
         → Rolls B.tells B.size B.moment B.content B.may_leave B.settled B.settled_always B.faults B.last_fault most
         (λ c s. RollingLinks c s most before places k) (λ c s. RollingLinks c s most before places (k + 1)) result store.old store.new }
+    ensures fails { Rolls B.tells B.size B.moment B.content B.may_leave B.settled B.settled_always B.faults B.last_fault 0 Never Never result store.old store.new }
 {
     if base.get() >= store.blocks() {
         return bad_reference(base);
@@ -65,10 +67,11 @@ fn set_link<B: Blocks>(store: &mut B, base: BlockNo, next: BlockNo) -> Result<()
 
 /// Sets the link of a file, where one is outstanding.
 fn link_file<B: Blocks>(store: &mut B, chain: &Option<Chain>) -> Result<(), OpenRefused>
-    ensures { (most : ℕ) (before : LaidStore) (places : List ℕ) (k : ℕ)
+    ensures rolls { (most : ℕ) (before : LaidStore) (places : List ℕ) (k : ℕ)
         → most ≤ B.size store.old → slice_get (chains_of before.files) k ≡ Some chain.now
         → Rolls B.tells B.size B.moment B.content B.may_leave B.settled B.settled_always B.faults B.last_fault most
         (λ c s. RollingLinks c s most before places k) (λ c s. RollingLinks c s most before places (k + 1)) result store.old store.new }
+    ensures fails { Rolls B.tells B.size B.moment B.content B.may_leave B.settled B.settled_always B.faults B.last_fault 0 Never Never result store.old store.new }
 {
     match chain {
         None => Ok(()),
@@ -81,9 +84,10 @@ fn link_file<B: Blocks>(store: &mut B, chain: &Option<Chain>) -> Result<(), Open
 
 /// Sets all links that are outstanding.
 fn set_links<B: Blocks>(store: &mut B, chains: &[Option<Chain>]) -> Result<(), OpenRefused>
-    ensures { (most : ℕ) (before : LaidStore) (places : List ℕ) → most ≤ B.size store.old → chains.now ≡ chains_of before.files
+    ensures rolls { (most : ℕ) (before : LaidStore) (places : List ℕ) → most ≤ B.size store.old → chains.now ≡ chains_of before.files
         → Rolls B.tells B.size B.moment B.content B.may_leave B.settled B.settled_always B.faults B.last_fault most
         (λ c s. RollingLinks c s most before places 0) (λ c s. RollingLinks c s most before places (length chains.now)) result store.old store.new }
+    ensures fails { Rolls B.tells B.size B.moment B.content B.may_leave B.settled B.settled_always B.faults B.last_fault 0 Never Never result store.old store.new }
 {
     'files: for i in 0..chains.len() {
         link_file(store, &chains[i])?;
@@ -94,10 +98,11 @@ fn set_links<B: Blocks>(store: &mut B, chains: &[Option<Chain>]) -> Result<(), O
 /// Clears the members of a version page. The page is read first, so that its bytes are known.
 fn clear_page<B: Blocks>(store: &mut B, block: BlockNo) -> Result<(), OpenRefused>
     requires { block < B.size store.old }
-    ensures { (most : ℕ) (before : LaidStore) (places : List ℕ) (k : ℕ) (chain : Chain)
+    ensures rolls { (most : ℕ) (before : LaidStore) (places : List ℕ) (k : ℕ) (chain : Chain)
         → slice_get (chains_of before.files) k ≡ Some (Some chain) → chain.last.block ≡ block → (length chain.last.members ≡ 0 → ⊥)
         → Rolls B.tells B.size B.moment B.content B.may_leave B.settled B.settled_always B.faults B.last_fault most
         (λ c s. RollingTops c s most before places k) (λ c s. RollingTops c s most before places (k + 1)) result store.old store.new }
+    ensures fails { Rolls B.tells B.size B.moment B.content B.may_leave B.settled B.settled_always B.faults B.last_fault 0 Never Never result store.old store.new }
 {
     let mut page = [0; 1024];
     store.read(block, &mut page)?;
@@ -108,10 +113,11 @@ fn clear_page<B: Blocks>(store: &mut B, block: BlockNo) -> Result<(), OpenRefuse
 
 /// Clears the members of the last version of a file, where its block is one of a store.
 fn clear_last<B: Blocks>(store: &mut B, block: BlockNo) -> Result<(), OpenRefused>
-    ensures { (most : ℕ) (before : LaidStore) (places : List ℕ) (k : ℕ) (chain : Chain)
+    ensures rolls { (most : ℕ) (before : LaidStore) (places : List ℕ) (k : ℕ) (chain : Chain)
         → most ≤ B.size store.old → slice_get (chains_of before.files) k ≡ Some (Some chain) → chain.last.block ≡ block → (length chain.last.members ≡ 0 → ⊥)
         → Rolls B.tells B.size B.moment B.content B.may_leave B.settled B.settled_always B.faults B.last_fault most
         (λ c s. RollingTops c s most before places k) (λ c s. RollingTops c s most before places (k + 1)) result store.old store.new }
+    ensures fails { Rolls B.tells B.size B.moment B.content B.may_leave B.settled B.settled_always B.faults B.last_fault 0 Never Never result store.old store.new }
 {
     if block.get() >= store.blocks() {
         return bad_reference(block);
@@ -121,10 +127,11 @@ fn clear_last<B: Blocks>(store: &mut B, block: BlockNo) -> Result<(), OpenRefuse
 
 /// Clears the members of the last version of a file, where it names any.
 fn clear_file<B: Blocks>(store: &mut B, chain: &Option<Chain>) -> Result<(), OpenRefused>
-    ensures { (most : ℕ) (before : LaidStore) (places : List ℕ) (k : ℕ)
+    ensures rolls { (most : ℕ) (before : LaidStore) (places : List ℕ) (k : ℕ)
         → most ≤ B.size store.old → slice_get (chains_of before.files) k ≡ Some chain.now
         → Rolls B.tells B.size B.moment B.content B.may_leave B.settled B.settled_always B.faults B.last_fault most
         (λ c s. RollingTops c s most before places k) (λ c s. RollingTops c s most before places (k + 1)) result store.old store.new }
+    ensures fails { Rolls B.tells B.size B.moment B.content B.may_leave B.settled B.settled_always B.faults B.last_fault 0 Never Never result store.old store.new }
 {
     match chain {
         None => Ok(()),
@@ -139,9 +146,10 @@ fn clear_file<B: Blocks>(store: &mut B, chain: &Option<Chain>) -> Result<(), Ope
 
 /// Clears the members of each last version. The links are to be set by then.
 fn clear_tops<B: Blocks>(store: &mut B, chains: &[Option<Chain>]) -> Result<(), OpenRefused>
-    ensures { (most : ℕ) (before : LaidStore) (places : List ℕ) → most ≤ B.size store.old → chains.now ≡ chains_of before.files
+    ensures rolls { (most : ℕ) (before : LaidStore) (places : List ℕ) → most ≤ B.size store.old → chains.now ≡ chains_of before.files
         → Rolls B.tells B.size B.moment B.content B.may_leave B.settled B.settled_always B.faults B.last_fault most
         (λ c s. RollingTops c s most before places 0) (λ c s. RollingTops c s most before places (length chains.now)) result store.old store.new }
+    ensures fails { Rolls B.tells B.size B.moment B.content B.may_leave B.settled B.settled_always B.faults B.last_fault 0 Never Never result store.old store.new }
 {
     'files: for i in 0..chains.len() {
         clear_file(store, &chains[i])?;
@@ -151,9 +159,10 @@ fn clear_tops<B: Blocks>(store: &mut B, chains: &[Option<Chain>]) -> Result<(), 
 
 /// Rolls a commit forward that was cut off: sets all links that are outstanding, and then clears the members.
 pub fn roll_forward<B: Blocks>(store: &mut B, chains: &[Option<Chain>]) -> Result<(), OpenRefused>
-    ensures { (most : ℕ) (before : LaidStore) (places : List ℕ) → most ≤ B.size store.old → chains.now ≡ chains_of before.files
+    ensures rolls { (most : ℕ) (before : LaidStore) (places : List ℕ) → most ≤ B.size store.old → chains.now ≡ chains_of before.files
         → Rolls B.tells B.size B.moment B.content B.may_leave B.settled B.settled_always B.faults B.last_fault most
         (λ c s. RollingLinks c s most before places 0) (λ c s. RollingTops c s most before places (length chains.now)) result store.old store.new }
+    ensures fails { Rolls B.tells B.size B.moment B.content B.may_leave B.settled B.settled_always B.faults B.last_fault 0 Never Never result store.old store.new }
 {
     set_links(store, chains)?;
     clear_tops(store, chains)

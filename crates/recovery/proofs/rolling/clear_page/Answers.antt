@@ -8,16 +8,16 @@ use Rattle.store_check.specs.Files.{chains_of}
 use Rattle.store_model.specs.Found.{LaidStore}
 use Rattle.recovery.specs.declared.refused.OpenRefused.{OpenRefused}
 use Rattle.recovery.specs.Opening.{SameFound, refused_call}
-use Rattle.recovery.specs.Rolling.{Rolls, RollingTops, IsHalfFailed}
-use Rattle.recovery.proofs.Rolls.{PageAt, rolls_failed, rolls_on, rolls_read, wrote_images, rolls_wrote, read_images, read_fails, never_written}
+use Rattle.recovery.specs.Rolling.{Never, Rolls, RollingTops, IsHalfFailed}
+use Rattle.recovery.proofs.Rolls.{PageAt, never_ok, never_failed, rolls_failed, rolls_on, rolls_read, wrote_images, rolls_wrote, read_images, read_fails, never_written}
 use Rattle.pair_store.specs.Answers.{IsRefused}
 use Rattle.pair_store.specs.Pages.{without_members}
 use Rattle.recovery.proofs.Writes.{top_body, top_images, top_written, top_found, more_tops, cleared_or_failed, refused_before}
 use Rattle.recovery.proofs.Commits.{TopsRead, more_tops_read, settles_all}
 use Rattle.recovery.proofs.rolling.clear_page.Goals as goal
 
-pub returns-in_err-read : goal.returns-in_err-read
-returns-in_err-read g c = λ most before places k chain kept last some.
+pub returns-in_err-read-clause-rolls : goal.returns-in_err-read-clause-rolls
+returns-in_err-read-clause-rolls g c = λ most before places k chain kept last some.
     let b = g.B.Blocks in
     let fault : PairFault = c.in_err-read.field-0.0 in
     let p = err_from_is_err_and c.from_residual.result c.from_residual.ensures.1 in
@@ -39,8 +39,8 @@ returns-in_err-read g c = λ most before places k chain kept last some.
     (λ h e. never_written fault c.args.block h c.in_err-read.ensures.only e)
     c.read.ensures.later c.read.ensures.size)
 
-pub returns-in_err-clear_members : goal.returns-in_err-clear_members
-returns-in_err-clear_members g c = λ most before places k chain kept last some.
+pub returns-in_err-clear_members-clause-rolls : goal.returns-in_err-clear_members-clause-rolls
+returns-in_err-clear_members-clause-rolls g c = λ most before places k chain kept last some.
     let b = g.B.Blocks in
     let old = c.args.store.now in
     let mid = c.read.new.self in
@@ -86,8 +86,8 @@ returns-in_err-clear_members g c = λ most before places k chain kept last some.
     (λ h same. e.stopped h (c.in_err-clear_members.was ∙ ap Err same))
     e.later e.size))
 
-pub returns : goal.returns
-returns g c = λ most before places k chain kept last some.
+pub returns-clause-rolls : goal.returns-clause-rolls
+returns-clause-rolls g c = λ most before places k chain kept last some.
     let b = g.B.Blocks in
     let old = c.args.store.now in
     let mid = c.read.new.self in
@@ -123,3 +123,37 @@ returns g c = λ most before places k chain kept last some.
     (λ x y s t from is others settles. top_written x s most before places k chain c.args.block from.0 kept last some block whole from.1 y t is others settles)
     (λ x y s from is others. top_found x s most before places k chain c.args.block from.0 kept last some block whole from.1 y is others)
     e.later e.size)
+
+pub returns-in_err-read-clause-fails : goal.returns-in_err-read-clause-fails
+returns-in_err-read-clause-fails g c =
+    let b = g.B.Blocks in
+    let fault : PairFault = c.in_err-read.field-0.0 in
+    let p = err_from_is_err_and c.from_residual.result c.from_residual.ensures.1 in
+    let is : c.from_residual.result ≡ Err (refused_call fault) = p.1 ∙ ap Err p.2 in
+    subst (λ (r : Result (Unit {0}) OpenRefused). Rolls b.tells b.size b.moment b.content b.may_leave b.settled b.settled_always b.faults b.last_fault 0 Never Never r c.args.store.now c.read.new.self) (sym is)
+    (never_failed b.tells b.size b.moment b.content b.may_leave b.settled b.settled_always b.faults b.last_fault 0 (Unit {0}) fault c.args.store.now c.read.new.self _
+    (λ h e. c.read.ensures.unread h (c.in_err-read.was ∙ ap Err e)) (λ h e. never_written fault c.args.block h c.in_err-read.ensures.only e) c.read.ensures.later c.read.ensures.size)
+
+pub returns-in_err-clear_members-clause-fails : goal.returns-in_err-clear_members-clause-fails
+returns-in_err-clear_members-clause-fails g c =
+    let b = g.B.Blocks in
+    let old = c.args.store.now in
+    let mid = c.read.new.self in
+    let new = c.clear_members.new.self in
+    let fault : PairFault = c.in_err-clear_members.field-0.0 in
+    let p = err_from_is_err_and c.from_residual-in_err-clear_members.result c.from_residual-in_err-clear_members.ensures.1 in
+    let is : c.from_residual-in_err-clear_members.result ≡ Err (refused_call fault) = p.1 ∙ ap Err p.2 in
+    let e = c.clear_members.ensures in
+    subst (λ (r : Result (Unit {0}) OpenRefused). Rolls b.tells b.size b.moment b.content b.may_leave b.settled b.settled_always b.faults b.last_fault 0 Never Never r old new) (sym is)
+    (rolls_on b.tells b.size b.moment b.content b.may_leave b.settled b.settled_always b.faults b.last_fault 0 Never Never Never c.in_ok-read.field-0 (Err (refused_call fault)) old mid new
+    (never_ok b.tells b.size b.moment b.content b.may_leave b.settled b.settled_always b.faults b.last_fault 0 _ c.in_ok-read.field-0 old mid c.read.ensures.later c.read.ensures.size)
+    (never_failed b.tells b.size b.moment b.content b.may_leave b.settled b.settled_always b.faults b.last_fault 0 (Unit {0}) fault mid new _
+    (λ h same. e.unread h (c.in_err-clear_members.was ∙ ap Err same)) (λ h same. e.stopped h (c.in_err-clear_members.was ∙ ap Err same)) e.later e.size))
+
+pub returns-clause-fails : goal.returns-clause-fails
+returns-clause-fails g c =
+    let b = g.B.Blocks in
+    let e = c.clear_members.ensures in
+    rolls_on b.tells b.size b.moment b.content b.may_leave b.settled b.settled_always b.faults b.last_fault 0 Never Never Never c.in_ok-read.field-0 (Ok tt) c.args.store.now c.read.new.self c.clear_members.new.self
+    (never_ok b.tells b.size b.moment b.content b.may_leave b.settled b.settled_always b.faults b.last_fault 0 _ c.in_ok-read.field-0 c.args.store.now c.read.new.self c.read.ensures.later c.read.ensures.size)
+    (never_ok b.tells b.size b.moment b.content b.may_leave b.settled b.settled_always b.faults b.last_fault 0 _ tt c.read.new.self c.clear_members.new.self e.later e.size)

@@ -8,8 +8,8 @@ use Rattle.store_check.specs.Files.{chains_of}
 use Rattle.store_model.specs.Found.{LaidStore}
 use Rattle.recovery.specs.declared.refused.OpenRefused.{OpenRefused}
 use Rattle.recovery.specs.Opening.{SameFound, refused_call}
-use Rattle.recovery.specs.Rolling.{Rolls, RollingLinks, IsHalfFailed}
-use Rattle.recovery.proofs.Rolls.{PageAt, rolls_failed, rolls_on, rolls_read, wrote_images, rolls_wrote, read_images, read_fails, never_written}
+use Rattle.recovery.specs.Rolling.{Never, Rolls, RollingLinks, IsHalfFailed}
+use Rattle.recovery.proofs.Rolls.{PageAt, never_ok, never_failed, rolls_failed, rolls_on, rolls_read, wrote_images, rolls_wrote, read_images, read_fails, never_written}
 use Rattle.pair_store.specs.declared.outcome.Tas.{Tas}
 use Rattle.pair_store.specs.Answers.{LeftAlone, IsSet}
 use Rattle.pair_store.specs.Pages.{with_commit}
@@ -17,8 +17,8 @@ use Rattle.recovery.proofs.Writes.{link_body, link_nil, link_images, link_writte
 use Rattle.recovery.proofs.Commits.{LinksRead, more_links_read, is_set, tas_settles}
 use Rattle.recovery.proofs.rolling.set_commit.Goals as goal
 
-pub returns-in_err-read : goal.returns-in_err-read
-returns-in_err-read g c = λ most before places k chain kept unset last.
+pub returns-in_err-read-clause-rolls : goal.returns-in_err-read-clause-rolls
+returns-in_err-read-clause-rolls g c = λ most before places k chain kept unset last.
     let b = g.B.Blocks in
     let fault : PairFault = c.in_err-read.field-0.0 in
     let p = err_from_is_err_and c.from_residual.result c.from_residual.ensures.1 in
@@ -40,8 +40,8 @@ returns-in_err-read g c = λ most before places k chain kept unset last.
     (λ h e. never_written fault c.args.base h c.in_err-read.ensures.only e)
     c.read.ensures.later c.read.ensures.size)
 
-pub returns-in_err-test_and_set : goal.returns-in_err-test_and_set
-returns-in_err-test_and_set g c = λ most before places k chain kept unset last.
+pub returns-in_err-test_and_set-clause-rolls : goal.returns-in_err-test_and_set-clause-rolls
+returns-in_err-test_and_set-clause-rolls g c = λ most before places k chain kept unset last.
     let b = g.B.Blocks in
     let old = c.args.store.now in
     let mid = c.read.new.self in
@@ -88,8 +88,8 @@ returns-in_err-test_and_set g c = λ most before places k chain kept unset last.
     (λ h same. e.stopped h (c.in_err-test_and_set.was ∙ ap Err same))
     e.later e.size))
 
-pub returns : goal.returns
-returns g c = λ most before places k chain kept unset last.
+pub returns-clause-rolls : goal.returns-clause-rolls
+returns-clause-rolls g c = λ most before places k chain kept unset last.
     let b = g.B.Blocks in
     let old = c.args.store.now in
     let mid = c.read.new.self in
@@ -132,3 +132,37 @@ returns g c = λ most before places k chain kept unset last.
     (λ x y s t from is others settles. link_written x s most before places k chain c.args.base c.args.next from.0 kept unset last block whole from.1 c.requires.word y t is others settles)
     (λ x y s from is others. link_found x s most before places k chain c.args.base c.args.next from.0 kept unset last block whole from.1 c.requires.word y is others)
     e.later e.size)
+
+pub returns-in_err-read-clause-fails : goal.returns-in_err-read-clause-fails
+returns-in_err-read-clause-fails g c =
+    let b = g.B.Blocks in
+    let fault : PairFault = c.in_err-read.field-0.0 in
+    let p = err_from_is_err_and c.from_residual.result c.from_residual.ensures.1 in
+    let is : c.from_residual.result ≡ Err (refused_call fault) = p.1 ∙ ap Err p.2 in
+    subst (λ (r : Result (Unit {0}) OpenRefused). Rolls b.tells b.size b.moment b.content b.may_leave b.settled b.settled_always b.faults b.last_fault 0 Never Never r c.args.store.now c.read.new.self) (sym is)
+    (never_failed b.tells b.size b.moment b.content b.may_leave b.settled b.settled_always b.faults b.last_fault 0 (Unit {0}) fault c.args.store.now c.read.new.self _
+    (λ h e. c.read.ensures.unread h (c.in_err-read.was ∙ ap Err e)) (λ h e. never_written fault c.args.base h c.in_err-read.ensures.only e) c.read.ensures.later c.read.ensures.size)
+
+pub returns-in_err-test_and_set-clause-fails : goal.returns-in_err-test_and_set-clause-fails
+returns-in_err-test_and_set-clause-fails g c =
+    let b = g.B.Blocks in
+    let old = c.args.store.now in
+    let mid = c.read.new.self in
+    let new = c.test_and_set.new.self in
+    let fault : PairFault = c.in_err-test_and_set.field-0.0 in
+    let p = err_from_is_err_and c.from_residual-in_err-test_and_set.result c.from_residual-in_err-test_and_set.ensures.1 in
+    let is : c.from_residual-in_err-test_and_set.result ≡ Err (refused_call fault) = p.1 ∙ ap Err p.2 in
+    let e = c.test_and_set.ensures in
+    subst (λ (r : Result (Unit {0}) OpenRefused). Rolls b.tells b.size b.moment b.content b.may_leave b.settled b.settled_always b.faults b.last_fault 0 Never Never r old new) (sym is)
+    (rolls_on b.tells b.size b.moment b.content b.may_leave b.settled b.settled_always b.faults b.last_fault 0 Never Never Never c.in_ok-read.field-0 (Err (refused_call fault)) old mid new
+    (never_ok b.tells b.size b.moment b.content b.may_leave b.settled b.settled_always b.faults b.last_fault 0 _ c.in_ok-read.field-0 old mid c.read.ensures.later c.read.ensures.size)
+    (never_failed b.tells b.size b.moment b.content b.may_leave b.settled b.settled_always b.faults b.last_fault 0 (Unit {0}) fault mid new _
+    (λ h same. e.unread h (c.in_err-test_and_set.was ∙ ap Err same)) (λ h same. e.stopped h (c.in_err-test_and_set.was ∙ ap Err same)) e.later e.size))
+
+pub returns-clause-fails : goal.returns-clause-fails
+returns-clause-fails g c =
+    let b = g.B.Blocks in
+    let e = c.test_and_set.ensures in
+    rolls_on b.tells b.size b.moment b.content b.may_leave b.settled b.settled_always b.faults b.last_fault 0 Never Never Never c.in_ok-read.field-0 (Ok tt) c.args.store.now c.read.new.self c.test_and_set.new.self
+    (never_ok b.tells b.size b.moment b.content b.may_leave b.settled b.settled_always b.faults b.last_fault 0 _ c.in_ok-read.field-0 c.args.store.now c.read.new.self c.read.ensures.later c.read.ensures.size)
+    (never_ok b.tells b.size b.moment b.content b.may_leave b.settled b.settled_always b.faults b.last_fault 0 _ tt c.read.new.self c.test_and_set.new.self e.later e.size)

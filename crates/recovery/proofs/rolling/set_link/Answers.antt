@@ -1,14 +1,14 @@
 use Rattle.std.proofs.Common.{◌≡◌, ℕ, ◌+◌, Some, None, List, Result, Ok, Err, refl, sym, ap, subst, ◌∙◌, arith}
 use Rattle.page_codec.specs.declared.why.Why.TheVariants.{Reference}
 use Rattle.recovery.specs.declared.refused.OpenRefused.{OpenRefused}
-use Rattle.recovery.specs.Rolling.{Rolls, RollingLinks}
+use Rattle.recovery.specs.Rolling.{Never, Rolls, RollingLinks}
 use Rattle.recovery.proofs.Links.{laid_fits}
 use Rattle.recovery.proofs.Rolls.{rolls_bad}
 use Rattle.recovery.proofs.Writes.{link_low}
 use Rattle.recovery.proofs.rolling.set_link.Goals as goal
 
-pub returns-then-get-blocks : goal.returns-then-get-blocks
-returns-then-get-blocks g c = λ most before places k chain fits kept unset last.
+pub returns-then-get-blocks-clause-rolls : goal.returns-then-get-blocks-clause-rolls
+returns-then-get-blocks-clause-rolls g c = λ most before places k chain fits kept unset last.
     let b = g.B.Blocks in
     let d = c.args.store.now in
     subst
@@ -26,8 +26,8 @@ returns-then-get-blocks g c = λ most before places k chain fits kept unset last
     let past = c.if-get-blocks.true in
     Prim.omega (arith, low.1, few, fits, count, is, past)))
 
-pub returns-then-get-eq0 : goal.returns-then-get-eq0
-returns-then-get-eq0 g c = λ most before places k chain fits kept unset last.
+pub returns-then-get-eq0-clause-rolls : goal.returns-then-get-eq0-clause-rolls
+returns-then-get-eq0-clause-rolls g c = λ most before places k chain fits kept unset last.
     let b = g.B.Blocks in
     let d = c.args.store.now in
     subst
@@ -43,5 +43,22 @@ returns-then-get-eq0 g c = λ most before places k chain fits kept unset last.
     let nil = c.if-get-eq0.true in
     Prim.grind (arith, low.0, is, nil)))
 
-pub returns : goal.returns
-returns g c = λ most before places k chain fits. c.set_commit.ensures most before places k chain
+pub returns-clause-rolls : goal.returns-clause-rolls
+returns-clause-rolls g c = λ most before places k chain fits. c.set_commit.ensures.rolls most before places k chain
+
+pub returns-then-get-blocks-clause-fails : goal.returns-then-get-blocks-clause-fails
+returns-then-get-blocks-clause-fails g c =
+    let b = g.B.Blocks in
+    let d = c.args.store.now in
+    subst (λ (r : Result (Unit {0}) OpenRefused). Rolls b.tells b.size b.moment b.content b.may_leave b.settled b.settled_always b.faults b.last_fault 0 Never Never r d d) (sym c.bad_reference.ensures)
+    (rolls_bad b.tells b.size b.moment b.content b.may_leave b.settled b.settled_always b.faults b.last_fault 0 (Unit {0}) Never Never c.args.base Reference d (g.met.B.Blocks.clock d) (λ told from. from))
+
+pub returns-then-get-eq0-clause-fails : goal.returns-then-get-eq0-clause-fails
+returns-then-get-eq0-clause-fails g c =
+    let b = g.B.Blocks in
+    let d = c.args.store.now in
+    subst (λ (r : Result (Unit {0}) OpenRefused). Rolls b.tells b.size b.moment b.content b.may_leave b.settled b.settled_always b.faults b.last_fault 0 Never Never r d d) (sym c.bad_reference-then-get-eq0.ensures)
+    (rolls_bad b.tells b.size b.moment b.content b.may_leave b.settled b.settled_always b.faults b.last_fault 0 (Unit {0}) Never Never c.args.next Reference d (g.met.B.Blocks.clock d) (λ told from. from))
+
+pub returns-clause-fails : goal.returns-clause-fails
+returns-clause-fails g c = c.set_commit.ensures.fails
