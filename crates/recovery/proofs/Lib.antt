@@ -6,3 +6,4 @@ pub mod Rolls
 pub mod Writes
 pub mod Commits
 pub mod KnownLaws
+pub mod Openings
