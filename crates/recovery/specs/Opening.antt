@@ -15,6 +15,7 @@ use Rattle.store_check.specs.Checked.{LikeTable}
 use Rattle.store_check.specs.Files.{first_serial, kept_by}
 use Rattle.store_check.specs.Marks.{Marks}
 use Rattle.page_codec.specs.declared.why.Why.TheVariants.{Closed}
+use Rattle.pair_store.specs.declared.on_halves.Pair.{Pair}
 use Rattle.pair_store.specs.declared.fault.PairFault.{PairFault}
 use Rattle.pair_store.specs.declared.fault.PairFault.TheVariants.{ReadFault as Unread, WriteFault as Unwritten, BothClosed, BadPage}
 use Rattle.store_check.specs.declared.refused.CheckRefused.{CheckRefused}
@@ -47,6 +48,11 @@ drives_of (Err e) = e.drives
 abbrev pub store_of : {B : Type 0} → Result (OpenedOver B) (UnopenedOver B) → B
 store_of (Ok o) = o.store
 store_of (Err e) = e.store
+
+-- the same of two halves, which give their drives back, opened at this moment
+abbrev pub pair_result : {V : Type 0} → Result (OpenedOver (Pair V)) (UnopenedOver (Pair V)) → ℕ → Result (Opened V) (Unopened V)
+pair_result (Ok o) since = Ok (record { pair = o.store; table = o.table; map = o.map; heads = o.heads; since = since })
+pair_result (Err e) since = Err (record { drives = e.store.drives; why = e.why })
 
 -- no half failed in a write
 abbrev pub NoWriteFailed : OpenRefused → Type 0

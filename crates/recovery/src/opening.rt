@@ -10,14 +10,15 @@ ghost use Rattle.version_chain.specs.declared.head.Head.{Head};
 ghost use Rattle.recovery.specs.declared.refused.OpenRefused.{OpenRefused};
 ghost use Rattle.recovery.specs.Known.{why_of};
 ghost use Rattle.recovery.specs.Rolling.{Never, Rolls, RollingLinks, RollingTops};
-ghost use Rattle.recovery.specs.Opening.{IsBad, IsFailed, IsNoStore, IsOpened, IsUntorn, IsUntornOver, SameFound, drives_of, store_of};
+ghost use Rattle.recovery.specs.Opening.{IsBad, IsFailed, IsNoStore, IsOpened, IsUntorn, IsUntornOver, SameFound, drives_of, pair_result, store_of};
 
 use crate::known::{Known, known_store};
+use crate::mending::mend_all;
 use crate::opened::{Opened, OpenedOver, Unopened, UnopenedOver};
 use crate::refused::OpenRefused;
 use crate::rolling::roll_forward;
 use drives::Drives;
-use pair_store::Blocks;
+use pair_store::{Blocks, Pair};
 use std::alloc::Global;
 
 /// What was found, over the store.
@@ -109,6 +110,40 @@ pub fn open_over<B: Blocks>(
     }
 }
 
+/// What an opening over two halves came to, with its drives.
+fn on_halves<V: Drives>(
+    over: Result<OpenedOver<Pair<V>>, UnopenedOver<Pair<V>>>,
+    since: u64,
+) -> Result<Opened<V>, Unopened<V>>
+    ensures { result ≡ pair_result over since }
+{
+    match over {
+        Ok(opened) => {
+            let OpenedOver {
+                store,
+                table,
+                map,
+                heads,
+                since: _,
+            } = opened;
+            Ok(Opened {
+                pair: store,
+                table,
+                map,
+                heads,
+                since,
+            })
+        }
+        Err(unopened) => {
+            let UnopenedOver { store, why } = unopened;
+            Err(Unopened {
+                drives: store.into_drives(),
+                why,
+            })
+        }
+    }
+}
+
 /// Opens the store on two halves: all its blocks are mended and checked, and then the links that a commit left outstanding
 /// are set. The files that are found stay the same, whichever call fails and wherever a crash falls, so it may be begun
 /// anew. Where there is no store, or a half fails, or there is not enough memory, the drives come back.
@@ -141,8 +176,13 @@ pub fn open<V: Drives>(alloc: Global, drives: V) -> Result<Opened<V>, Unopened<V
     ensures later { (h : Half) → (V.faults drives h ≤ V.faults (drives_of result) h) × (V.last_fault drives h ≤ V.last_fault (drives_of result) h) }
     ensures size { V.size (drives_of result) ≡ V.size drives }
 {
-    Err(Unopened {
-        drives,
-        why: OpenRefused::Memory,
-    })
+    let since = drives.now();
+    let mut pair = Pair::over(drives);
+    match mend_all(&mut pair) {
+        Ok(()) => on_halves(open_over(alloc, pair), since),
+        Err(fault) => Err(Unopened {
+            drives: pair.into_drives(),
+            why: OpenRefused::from(fault),
+        }),
+    }
 }
