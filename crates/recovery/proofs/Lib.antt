@@ -7,3 +7,4 @@ pub mod Writes
 pub mod Commits
 pub mod KnownLaws
 pub mod Openings
+pub mod PairOpenings
