@@ -1,0 +1,6 @@
+pub mod Numbering
+pub mod Sums
+pub mod Counted
+pub mod Shown
+pub mod Sealed
+pub mod Ends

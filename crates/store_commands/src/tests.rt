@@ -1,0 +1,1 @@
+//! Whole commands on halves in memory.
