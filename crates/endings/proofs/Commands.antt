@@ -16,7 +16,7 @@ use Rattle.endings.specs.declared.status.Status.TheVariants.{Success, Usage, Bad
 
 -- a result that is an `Err` is no `Ok`
 not_ok : (before : Result State Refused) (cause : Refused) → before ≡ Err cause → IsOk before → ⊥
-not_ok before cause is ok = subst (IsOk {T = State} {E = Refused}) is ok
+not_ok before cause is ok = true≢false (sym (subst (IsOk {T = State} {E = Refused}) is ok))
 
 -- where a store is found and nothing failed, all is done, or memory ran out
 pub command_done : (tells : Type 0) (before : Result State Refused) (failed other : Half → Type 0) (text : State → List ℕ) (old new : Option (List ℕ)) (sink_rose : Type 0) (status : Status)
@@ -35,7 +35,7 @@ command_done tells before failed other text old new sink_rose Memory weaker ends
 pub shown_state : (tells : Type 0) (before : Result State Refused) (text : State → List ℕ) (printed : List ℕ) (shown : State) → text shown ≡ printed
     → (tells → (state : State) × (before ≡ Ok state) × (text state ≡ printed))
     → (state : State) × (tells → before ≡ Ok state) × (text state ≡ printed)
-shown_state tells (Err cause) text printed shown is told = (shown, λ t. absurd (not_ok (Err cause) cause refl (subst (IsOk {T = State} {E = Refused}) (sym (told t).1) tt)), is)
+shown_state tells (Err cause) text printed shown is told = (shown, λ t. absurd (not_ok (Err cause) cause refl (subst (IsOk {T = State} {E = Refused}) (sym (told t).1) refl)), is)
 shown_state tells (Ok state) text printed shown is told = of (bytes_eq (text state) printed) refl
   where
     same : (other : State) → (let r : Result State Refused = Ok state in r) ≡ Ok other → text other ≡ printed → text state ≡ printed

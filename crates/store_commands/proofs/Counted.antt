@@ -3,6 +3,7 @@ use Rattle.std.proofs.Common.{◌≡◌, ℕ, ◌+◌, ◌-◌, ◌*◌, ◌==�
 use Rattle.std.specs.Option.{is_some}
 use Rattle.std.specs.List.{list_any}
 use Rattle.std.proofs.lemmas.List.{length-map}
+use Rattle.std.proofs.lemmas.List.Sums.{sum_by-cons}
 use Rattle.std.proofs.lemmas.Simd.{map-map}
 use Rattle.page_codec.specs.Values.{EntryValue, TableValue}
 use Rattle.page_codec.specs.Bounds.{has_generation}
@@ -15,9 +16,9 @@ use Rattle.store_model.proofs.Chaining.{last_from}
 use Rattle.store_model.proofs.LastVersions.{last_get}
 use Rattle.store_model.proofs.Lying.{Each}
 use Rattle.store_check.specs.Checked.{LikeTable}
-use Rattle.store_check.specs.Files.{first_serial}
+use Rattle.store_check.specs.Files.{kept_by, own_pages}
 use Rattle.version_chain.specs.declared.head.Head.{Head}
-use Rattle.recovery.specs.Opening.{head_of, heads_of, kept_by}
+use Rattle.recovery.specs.Opening.{head_of, heads_of}
 use Rattle.store_commands.specs.Counting.{blocks_of_table, counted_text, head_kept, head_versions, heads_kept, heads_live, heads_versions, used_parts}
 use Rattle.store_commands.specs.Texts.{check_text, counts_text, free_count, kept_count, live_count, version_count}
 use Rattle.store_commands.proofs.Numbering.{IsNumbered, Rises, last_serial, files_numbered}
@@ -72,17 +73,12 @@ versions_same [] rises = refl
 versions_same (version ∷ rest) rises =
     ap head_versions (head_some version rest) ∙ omega (arith, last_serial version rest rises, length-map (version ∷ rest) version_in)
 
-fresh_same : (versions : List LaidVersion)
-    → sum_by (λ n. n) (map (λ (version : LaidVersion). length (filter (λ (node : Node). node.is_own) version.nodes)) versions)
-    ≡ sum_by (λ (v : Version). length v.fresh) (map version_in versions)
-fresh_same versions =
-    sums_same (λ n. n) (λ (v : Version). length v.fresh) (λ (version : LaidVersion). length (filter (λ (node : Node). node.is_own) version.nodes)) version_in
-    (λ _. Unit {0}) versions
-    (λ version _. sym (length-map (filter (λ (node : Node). node.is_own) version.nodes) (λ (node : Node). node.path))) (all versions)
-  where
-    all : (vs : List LaidVersion) → Each (λ _. Unit {0}) vs
-    all [] = tt
-    all (v ∷ vs) = (tt, all vs)
+fresh_same : (versions : List LaidVersion) → kept_by versions ≡ sum_by (λ (v : Version). length v.fresh) (map version_in versions)
+fresh_same [] = refl
+fresh_same (version ∷ others) =
+    let fresh : Version → ℕ = λ v. length v.fresh in
+    let here : own_pages version ≡ length (version_in version).fresh = sym (length-map (filter (λ (node : Node). node.is_own) version.nodes) (λ (node : Node). node.path)) in
+    sum_by-cons own_pages version others ∙ (λ i. here i + fresh_same others i) ∙ sym (sum_by-cons fresh (version_in version) (map version_in others))
 
 kept_same : (versions : List LaidVersion) → head_kept (head_of versions) ≡ sum_by (λ (v : Version). length v.fresh) (map version_in versions)
 kept_same [] = refl

@@ -16,7 +16,7 @@ ghost use Rattle.store_commands.specs.Formatting.{FormatEnds, IsMade};
 ghost use Rattle.store_commands.specs.Texts.{new_files_text};
 
 use drives::Drives;
-use endings::{Ended, Status, end_drive, end_memory, finish};
+use endings::{Ended, Status, empty_journal, end_drive, end_memory, finish};
 use new_store::{NewStore, format};
 use script_text::Sink;
 use std::alloc::{AllocError, Global};
@@ -61,11 +61,19 @@ fn make_store<V: Drives, K: Sink>(
     match format(drives, store) {
         Ok(drives) => {
             let status = finish(out, text);
-            Ended::without_journal(alloc, status, drives)
+            Ended {
+                status,
+                drives,
+                journal: empty_journal(alloc),
+            }
         }
         Err(e) => {
             let status = end_drive(out, e.half);
-            Ended::without_journal(alloc, status, e.drives)
+            Ended {
+                status,
+                drives: e.drives,
+                journal: empty_journal(alloc),
+            }
         }
     }
 }
@@ -103,7 +111,11 @@ pub fn afs_format<V: Drives, K: Sink>(
         Ok(text) => make_store(alloc, drives, store, &text, out),
         Err(_) => {
             let status = end_memory(out);
-            Ended::without_journal(alloc, status, drives)
+            Ended {
+                status,
+                drives,
+                journal: empty_journal(alloc),
+            }
         }
     }
 }
