@@ -25,8 +25,8 @@ printed_front old mid new line others rest text far parts front = (
   front.1 ++ others,
   Appends-trans old mid new far.0 front.0 far.1 front.2,
   append_assoc far.0 front.0 (front.1 ++ others)
-  ∙ ap (λ ys. far.0 ++ ys) (sym (append_assoc front.0 front.1 others) ∙ ap (λ ys. ys ++ others) front.3 ∙ parts)
-  ∙ far.2,
+      ∙ ap (λ ys. far.0 ++ ys) (sym (append_assoc front.0 front.1 others) ∙ ap (λ ys. ys ++ others) front.3 ∙ parts)
+      ∙ far.2,
 )
 
 -- a fact is one of an `Err`

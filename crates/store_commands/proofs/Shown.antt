@@ -59,8 +59,12 @@ kept_is : (entry : EntryValue) (head : Option Head) → head_kept head ≡ kept_
 kept_is entry None = refl
 kept_is entry (Some head) =
     let paths : Version → ℕ = λ v. length v.fresh in
-    omega (arith, sum_by-cons paths (version_with head.kept) (replicate (head.serial - head.first) (version_with 0)),
-    sum_by-replicate paths (head.serial - head.first) (version_with 0), length-replicate head.kept (let none : List ℕ = [] in none))
+    omega (
+      arith,
+      sum_by-cons paths (version_with head.kept) (replicate (head.serial - head.first) (version_with 0)),
+      sum_by-replicate paths (head.serial - head.first) (version_with 0),
+      length-replicate head.kept (let none : List ℕ = [] in none),
+    )
 
 pub shown_counts : (table : TableValue) (heads : List (Option Head)) → length heads ≡ length table.entries → HasCounts table heads (shown table heads)
 shown_counts table heads even =

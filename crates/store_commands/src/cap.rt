@@ -25,12 +25,7 @@ use script_text::Sink;
 use std::alloc::{AllocError, Global};
 
 /// The line with the capability of an object with these rights, where it is live.
-fn cap_line(
-    alloc: Global,
-    table: &Table,
-    object: u32,
-    rights: u8,
-) -> Result<Vec<u8>, AllocError>
+fn cap_line(alloc: Global, table: &Table, object: u32, rights: u8) -> Result<Vec<u8>, AllocError>
     ensures { IfOk result (λ line. line.items ≡ sealed_text object rights (seal_of table.now object)) }
 {
     match mint(table, object, rights) {
@@ -47,13 +42,7 @@ fn cap_line(
 }
 
 /// Prints the capability, and says how the command ends.
-fn end_minted<K: Sink>(
-    alloc: Global,
-    table: &Table,
-    object: u32,
-    rights: u8,
-    out: &mut K,
-) -> Status
+fn end_minted<K: Sink>(alloc: Global, table: &Table, object: u32, rights: u8, out: &mut K) -> Status
     ensures ends { DoneEnds (K.written out.old) (K.written out.new) (Rose (K.faults out.old) (K.faults out.new)) (sealed_text object rights (seal_of table.now object)) result }
     ensures later { K.faults out.old ≤ K.faults out.new }
 {

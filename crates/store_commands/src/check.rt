@@ -26,12 +26,7 @@ use std::alloc::Global;
 use version_chain::Head;
 
 /// Prints the counts of a store that was opened, and says how the command ends.
-fn end_counted<K: Sink>(
-    alloc: Global,
-    table: &Table,
-    heads: &[Option<Head>],
-    out: &mut K,
-) -> Status
+fn end_counted<K: Sink>(alloc: Global, table: &Table, heads: &[Option<Head>], out: &mut K) -> Status
     requires { length heads.now ≡ length table.now.entries }
     ensures ends { DoneEnds (K.written out.old) (K.written out.new) (Rose (K.faults out.old) (K.faults out.new)) (counted_text table.now heads.now) result }
     ensures later { K.faults out.old ≤ K.faults out.new }

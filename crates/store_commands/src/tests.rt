@@ -12,10 +12,7 @@ mod crashes;
 
 /// A sink whose calls of these numbers fail.
 fn sink(alloc: Global, fails: &[u64]) -> Result<MemSink, AllocError> {
-    Ok(MemSink::of(
-        Vec::new(alloc),
-        Vec::from_slice(alloc, fails)?,
-    ))
+    Ok(MemSink::of(Vec::new(alloc), Vec::from_slice(alloc, fails)?))
 }
 
 /// A new store of the key 7 on blank halves of as many blocks, where the calls of the halves and of the sink of these
@@ -81,12 +78,28 @@ fn a_new_store_of_two_files_begins_both_halves(rt: HostRuntime) -> Result<(), Fa
     ended_so(&rt, &ended, &out, (0, b"file 1\nfile 2\n"));
     for half in [Half::A, Half::B] {
         let bytes = ended.drives.half_bytes(half);
-        assert!(rt; has_at(bytes, 0, &[0xa5, 0x54, 1, 0, 0, 0, 0, 0x40, 0, 0, 0, 0, 0, 0, 0, 7, 0, 0, 0, 1]));
+        assert!(rt;
+            has_at(
+                bytes,
+                0,
+                &[
+                    0xa5, 0x54, 1, 0, 0, 0, 0, 0x40, 0, 0, 0, 0, 0, 0, 0, 7, 0, 0, 0, 1
+                ]
+            )
+        );
     }
     let (ended, _) = format_new(alloc, 61, 64, &[], &[])?;
     for half in [Half::A, Half::B] {
         let bytes = ended.drives.half_bytes(half);
-        assert!(rt; has_at(bytes, 0, &[0xa5, 0x54, 2, 0, 0, 0, 0, 0x40, 0, 0, 0, 0, 0, 0, 0, 7, 0, 0, 0, 0x3e]));
+        assert!(rt;
+            has_at(
+                bytes,
+                0,
+                &[
+                    0xa5, 0x54, 2, 0, 0, 0, 0, 0x40, 0, 0, 0, 0, 0, 0, 0, 7, 0, 0, 0, 0x3e
+                ]
+            )
+        );
     }
     Ok(())
 }
