@@ -2,5 +2,11 @@
 #![tactic(auto)]
 
 mod mending;
+mod opened;
+mod opening;
+mod refused;
 
 pub use mending::mend_all;
+pub use opened::{Opened, OpenedOver, Unopened, UnopenedOver};
+pub use opening::{open, open_over};
+pub use refused::OpenRefused;
