@@ -72,22 +72,30 @@ root_bytes store count level b part page at h =
     let x = h.page [] b refl in
     x.2 ∙ ap (λ p. Some p.bytes) (some_is (sym x.1 ∙ at))
 
-pub walked_from : (blocks : Blocks) (depth level b : ℕ) (part : Part) (page : PageValue) → level + depth ≡ 7 → pages_of blocks.content b ≡ Some page
-    → HoldsPart (pages_of blocks.content) blocks.count level b part → Walked (pages_from blocks depth b page) part
+-- a page with no level below it
+leaf_walked : (blocks : Blocks) (level b : ℕ) (part : Part) (page : PageValue) → level ≡ 7 → pages_of blocks.content b ≡ Some page
+    → HoldsPart (pages_of blocks.content) blocks.count level b part → Walked (pages_from blocks 0 b page) part
 unfolding pages_from
-walked_from blocks zero level b part page deep at h = record {
+leaf_walked blocks level b part page deep at h = record {
   entries = ([], page.bytes) ∷ [];
   is = refl;
   ordered = record { sorted = tt; same = λ q. same q };
 }
   where
     held : HoldsPart (pages_of blocks.content) blocks.count 7 b part
-    held = let P : ℕ → Type 0 = λ n. HoldsPart (pages_of blocks.content) blocks.count n b part in subst P (Prim.omega (arith, deep)) h
+    held = let P : ℕ → Type 0 = λ n. HoldsPart (pages_of blocks.content) blocks.count n b part in subst P deep h
 
     same : (q : List ℕ) → find path_cmp q (([], page.bytes) ∷ []) ≡ part q
     same [] = sym (root_bytes (pages_of blocks.content) blocks.count level b part page at h)
     same (s ∷ q) = sym (nothing_below blocks b part held s q)
-walked_from blocks (suc depth) level b part page deep at h = record {
+
+-- a page, where the pages that its slots name are walked
+page_walked : (blocks : Blocks) (depth level b : ℕ) (part : Part) (page : PageValue) → level + suc depth ≡ 7 → pages_of blocks.content b ≡ Some page
+    → HoldsPart (pages_of blocks.content) blocks.count level b part
+    → ((m : ℕ) (sub : Part) (child : PageValue) → pages_of blocks.content m ≡ Some child → HoldsPart (pages_of blocks.content) blocks.count (suc level) m sub → Walked (pages_from blocks depth m child) sub)
+    → Walked (pages_from blocks (suc depth) b page) part
+unfolding pages_from
+page_walked blocks depth level b part page deep at h walk = record {
   entries = ([], page.bytes) ∷ rest.entries;
   is = ap (λ r. and_then r (λ below. Ok (([], page.bytes) ∷ below))) rest.is;
   ordered = record { sorted = sorted_first 0 page.bytes rest.entries rest.from rest.sorted; same = λ q. same q };
@@ -100,7 +108,7 @@ walked_from blocks (suc depth) level b part page deep at h = record {
         let x = sub.page [] m refl in
         let child : PageValue = x.0 in
         let level_is : child.level ≡ suc level + 0 = x.3 in
-        let inner = walked_from blocks depth (suc level) m (below part s) child (Prim.omega (arith, deep)) x.1 sub in
+        let inner = walk m (below part s) child x.1 sub in
         record {
           entries = inner.entries;
           is = ap (λ r. and_then r (pages_from blocks depth m)) (named_page blocks b m (7 - depth) child x.4 x.1 (Prim.omega (arith, deep, level_is)) (Prim.omega (arith, deep))) ∙ inner.is;
@@ -110,11 +118,17 @@ walked_from blocks (suc depth) level b part page deep at h = record {
     rest : SlotsWalked (slots_pages (pages_named blocks depth b) 0 page.refs) 0 (below part)
     rest = slots_walked (pages_named blocks depth b) 0 page.refs (below part)
         (λ i. let P : ℕ → Type 0 = λ n. SlotWalked (pages_named blocks depth b) (below part n) (option_and_then (λ (r : ReferenceValue). r.block) (slice_get page.refs i)) in
-        subst P (Prim.omega arith) (named i (slot_block page i) refl))
+        let e : i ≡ 0 + i = Prim.omega arith in subst P e (named i (slot_block page i) refl))
 
     same : (q : List ℕ) → find path_cmp q (([], page.bytes) ∷ rest.entries) ≡ part q
     same [] = sym (root_bytes (pages_of blocks.content) blocks.count level b part page at h)
     same (s ∷ q) = rest.same s (Prim.omega arith) q
+
+pub walked_from : (blocks : Blocks) (depth level b : ℕ) (part : Part) (page : PageValue) → level + depth ≡ 7 → pages_of blocks.content b ≡ Some page
+    → HoldsPart (pages_of blocks.content) blocks.count level b part → Walked (pages_from blocks depth b page) part
+walked_from blocks zero level b part page deep at h = leaf_walked blocks level b part page (Prim.omega (arith, deep)) at h
+walked_from blocks (suc depth) level b part page deep at h =
+    page_walked blocks depth level b part page deep at h (λ m sub child is held. walked_from blocks depth (suc level) m sub child (Prim.omega (arith, deep)) is held)
 
 -- the whole tree
 pub holds_whole : (store : Store) (count root : ℕ) (tree : Tree) → Holds store root tree → ((p : List ℕ) (b : ℕ) → block_at store root p ≡ Some b → b < count)

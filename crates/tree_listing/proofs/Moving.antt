@@ -1,5 +1,5 @@
 -- Reads leave what a walk goes over, and a walk over slots is gathered slot by slot.
-use Rattle.std.proofs.Common.{◌≡◌, inl, inr, ℕ, zero, suc, ◌+◌, ◌^◌, ◌≤◌, ◌<◌, List, [], ◌∷◌, ◌++◌, length, drop, map, ◌-◌, Option, Some, None, Result, Ok, Err, refl, sym, ap, subst, ◌∙◌, arith, get_or, add-one, append_assoc, append-nil}
+use Rattle.std.proofs.Common.{◌≡◌, inl, inr, ℕ, zero, suc, ◌+◌, ◌^◌, ◌≤◌, ◌<◌, List, [], ◌∷◌, ◌++◌, length, drop, map, ◌-◌, Option, Some, None, Result, Ok, Err, OnOk, refl, sym, ap, subst, ◌∙◌, arith, get_or, add-one, append_assoc, append-nil}
 use Rattle.std.specs.List.{flat_map, slice_get}
 use Rattle.std.specs.Option.{option_and_then}
 use Rattle.std.proofs.Math.Seq.{drop-cons}
@@ -15,9 +15,13 @@ use Rattle.store_check.proofs.ReadOnly.{none_read, read_on, unread_before, faile
 use Rattle.pair_store.specs.Faults.{IsStopped, IsUnread}
 use Rattle.tree_listing.specs.declared.refused.ListingRefused.{ListingRefused}
 use Rattle.tree_listing.specs.declared.refused.ListingRefused.TheVariants.{ReadFault, BadStore, Memory}
-use Rattle.tree_listing.specs.TreeText.{page_line}
-use Rattle.tree_listing.specs.Listing.{Entry, and_then, under, blocks_of, slot_pages, slots_pages, pages_from, pages_named, EachBelow, EachBelowSlots, IsOpen}
-use Rattle.tree_listing.specs.Results.{Stops, Lists, Grows, IsRising, AreBelow, AreUnder, lines_under}
+use Rattle.tree_listing.specs.TreeText.{page_line, tree_text}
+use Rattle.tree_listing.proofs.Held.{tree_of}
+use Rattle.tree_model.specs.Trees.{Tree}
+use Rattle.std.specs.FinMap as finmap
+use Rattle.page_codec.specs.declared.why.Why.{Why}
+use Rattle.tree_listing.specs.Listing.{Entry, and_then, under, blocks_of, slot_pages, slots_pages, pages_from, pages_named, pages_of_version, root_in, EachBelow, EachBelowSlots, IsOpen}
+use Rattle.tree_listing.specs.Results.{AppendsTree, Gives, IsNoCause, Stops, Lists, Grows, IsRising, AreBelow, AreUnder, lines_under}
 use Rattle.tree_listing.proofs.Ordered.{rising_first, below_longer}
 
 -- ---- reads
@@ -183,7 +187,7 @@ pub slots_end : (told : Type 0) (pages : ℕ → Result (List Entry) Refused) (r
     → (entries : List Entry) × AreBelow 16 entries × (told → slots_pages pages 0 refs ≡ Ok entries) × (new ≡ old ++ lines_under path entries)
 slots_end told pages refs path old new k past all far =
     (far.here, subst (λ (n : ℕ). AreBelow n far.here) all far.below,
-    (λ t. far.is t ∙ ap (λ xs. before_rest far.here (slots_pages pages k xs)) (drop_of_length-le refs k past) ∙ ap Ok (append-nil far.here)),
+    (λ t. far.is t ∙ ap (λ xs. before_rest far.here (slots_pages pages k xs)) (drop_of_length-le refs past) ∙ ap Ok (append-nil far.here)),
     far.text)
 
 -- ---- a page and what is below it
@@ -199,3 +203,64 @@ pub leaf_is : (blocks : Blocks) (d n : ℕ) (page : PageValue) → d ≡ 0 → p
 unfolding pages_from
 leaf_is blocks zero n page e = refl
 leaf_is blocks (suc d) n page e = absurd (Prim.omega (arith, e))
+
+-- ---- one slot of a page
+
+pub slot_get : (refs : List ReferenceValue) (k : ℕ) (other : ReferenceValue) → k < length refs → slice_get refs k ≡ Some (get_or refs k other)
+slot_get [] k other low = absurd (Prim.omega (arith, low))
+slot_get (r ∷ refs) zero other low = refl
+slot_get (r ∷ refs) (suc k) other low = slot_get refs k other (Prim.omega (arith, low))
+
+pub slot_names : (refs : List ReferenceValue) (k : ℕ) (other : ReferenceValue) (m : ℕ) → k < length refs → (get_or refs k other).block ≡ Some m
+    → option_and_then (λ r. r.block) (slice_get refs k) ≡ Some m
+slot_names refs k other m low e = ap (option_and_then (λ (r : ReferenceValue). r.block)) (slot_get refs k other low) ∙ e
+
+-- ---- ends
+
+pub no_cause : {X : Type 0} (e : ListingRefused) (o : Result X Refused) (x : X) → Stops e o → o ≡ Ok x → IsNoCause e
+no_cause {X = X} (BadStore block why) o x stops is = absurd (no (sym stops ∙ is))
+  where
+    no : (let r : Result X Refused = Err (record { block = block; why = why }) in r) ≡ Ok x → ⊥
+    no h = cc
+no_cause (ReadFault half) o x stops is = tt
+no_cause Memory o x stops is = tt
+
+pub gives_exit : {X : Type 0} (P : Type 0) (result : Result X ListingRefused) (e : ListingRefused) → result ≡ Err e → IsNoCause e → Gives P result
+gives_exit {X} P result e is none = let Q : Result X ListingRefused → Type 0 = λ r. Gives P r in subst Q (sym is) none
+
+-- a cause that is answered is the walk's
+pub cause_is : {X Y : Type 0} (e : ListingRefused) (result : Result Y ListingRefused) (o : Result X Refused) (block : ℕ) (why : Why) → result ≡ Err e → result ≡ Err (BadStore block why) → Stops e o
+    → o ≡ Err (record { block = block; why = why })
+cause_is {X} e result o block why is bad stops =
+    let one : e ≡ BadStore block why = cc in
+    let P : ListingRefused → Type 0 = λ x. Stops x o in subst P one stops
+
+-- the walk of a version stops where its root is not found, and goes on where it is
+pub version_stops : (blocks : Blocks) (n : ℕ) (e : Refused) → root_in blocks n ≡ Err e → pages_of_version blocks n ≡ Err e
+unfolding pages_of_version
+version_stops blocks n e is = ap (λ r. and_then r (pages_from blocks 7 n)) is
+
+pub version_is : (blocks : Blocks) (n : ℕ) (page : PageValue) → root_in blocks n ≡ Ok page → pages_of_version blocks n ≡ pages_from blocks 7 n page
+unfolding pages_of_version
+version_is blocks n page is = ap (λ r. and_then r (pages_from blocks 7 n)) is
+
+-- what a listing gives
+pub lists_lines : {X : Type 0} (told : Type 0) (old new : List ℕ) (result : Result X ListingRefused) (o : Result (List Entry) Refused) → Lists IsRising told [] old new result o
+    → OnOk result (AppendsTree old new)
+lists_lines told old new (Ok x) o (entries, rising, is, text) = tree_of old new entries rising text
+lists_lines told old new (Err e) o stops = tt
+
+pub lists_text : {X : Type 0} (told : Type 0) (old new : List ℕ) (result : Result X ListingRefused) (o : Result (List Entry) Refused) (tree : Tree) → Lists IsRising told [] old new result o
+    → told → o ≡ Ok (finmap.entries tree) → Gives (new ≡ old ++ tree_text tree) result
+lists_text told old new (Ok x) o tree (entries, rising, is, text) t all =
+    let one : entries ≡ finmap.entries tree = ok_is (sym (is t) ∙ all) in
+    text ∙ ap (λ es. old ++ lines_under [] es) one
+  where
+    ok_is : {xs ys : List Entry} → (let r : Result (List Entry) Refused = Ok xs in r) ≡ Ok ys → xs ≡ ys
+    ok_is h = cc
+lists_text told old new (Err e) o tree stops t all = no_cause e o (finmap.entries tree) (stops t) all
+
+pub lists_bad : {X : Type 0} (told : Type 0) (path old new : List ℕ) (result : Result X ListingRefused) (o : Result (List Entry) Refused) (block : ℕ) (why : Why) → Lists IsRising told path old new result o
+    → told → result ≡ Err (BadStore block why) → o ≡ Err (record { block = block; why = why })
+lists_bad {X} told path old new result o block why lists t bad =
+    let P : Result X ListingRefused → Type 0 = λ r. Lists IsRising told path old new r o in subst P bad lists t

@@ -81,19 +81,19 @@ find_other s t q (e ∷ es) h =
 
 pub find_root : (s : ℕ) (es : List Entry) → AllFrom s es → find path_cmp [] es ≡ None
 find_root s [] h = refl
-find_root s (e ∷ es) h = of e.0 h.0
+find_root s (e ∷ es) h = of e.0 h.0 (find_root s es h.1)
   where
-    of : (p : List ℕ) → StartsFrom s p → cond (is_eq (path_cmp [] p)) (Some e.1) (find path_cmp [] es) ≡ None
-    of [] from = absurd from
-    of (t ∷ p) from = find_root s es h.1
+    of : (p : List ℕ) → StartsFrom s p → find path_cmp [] es ≡ None → cond (is_eq (path_cmp [] p)) (Some e.1) (find path_cmp [] es) ≡ None
+    of [] from rest = absurd from
+    of (t ∷ p) from rest = rest
 
 pub below_root : (s : ℕ) (es : List Entry) → AllFrom s es → T (below_all path_cmp [] es)
 below_root s [] h = tt
-below_root s (e ∷ es) h = of e.0 h.0
+below_root s (e ∷ es) h = of e.0 h.0 (below_root s es h.1)
   where
-    of : (p : List ℕ) → StartsFrom s p → T (is_lt (path_cmp [] p) && below_all path_cmp [] es)
-    of [] from = absurd from
-    of (t ∷ p) from = below_root s es h.1
+    of : (p : List ℕ) → StartsFrom s p → T (below_all path_cmp [] es) → T (is_lt (path_cmp [] p) && below_all path_cmp [] es)
+    of [] from rest = absurd from
+    of (t ∷ p) from rest = rest
 
 -- ---- one after the other
 
@@ -138,11 +138,11 @@ AllBefore k es = AllByRecursion (λ entry. StartsBefore k entry.0) es
 
 before_root : (k : ℕ) (es : List Entry) → AllBefore k es → T (below_all path_cmp [] es)
 before_root k [] h = tt
-before_root k (e ∷ es) h = of e.0 h.0
+before_root k (e ∷ es) h = of e.0 h.0 (before_root k es h.1)
   where
-    of : (p : List ℕ) → StartsBefore k p → T (is_lt (path_cmp [] p) && below_all path_cmp [] es)
-    of [] starts = absurd starts
-    of (t ∷ p) starts = before_root k es h.1
+    of : (p : List ℕ) → StartsBefore k p → T (below_all path_cmp [] es) → T (is_lt (path_cmp [] p) && below_all path_cmp [] es)
+    of [] starts rest = absurd starts
+    of (t ∷ p) starts rest = rest
 
 pub rising_first : (k : ℕ) (bytes : List ℕ) (es : List Entry) → AreBelow k es → IsRising (([], bytes) ∷ es)
 rising_first k bytes es h = both _ _ (before_root k es h.before) h.rising
