@@ -6,3 +6,6 @@ pub mod Sealed
 pub mod Ends
 pub mod FormatEnds
 pub mod Loops
+pub mod Kept
+pub mod Listed
+pub mod ShowEnds

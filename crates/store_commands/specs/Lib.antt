@@ -2,3 +2,5 @@ pub mod Texts
 pub mod Formatting
 pub mod Opening
 pub mod Counting
+pub mod Showing
+pub mod Shows

@@ -9,6 +9,7 @@ use std::process::Abort;
 use std::test::Fail;
 
 mod crashes;
+mod showing;
 
 /// A sink whose calls of these numbers fail.
 fn sink(alloc: Global, fails: &[u64]) -> Result<MemSink, AllocError> {
