@@ -1,11 +1,4 @@
-pub mod Blocks
-pub mod Ends
-pub mod Halves
-pub mod Journal
-pub mod Lines
-pub mod RootTree
-pub mod ScriptLemmas
-pub mod StepLoop
-pub mod StoreLemmas
-pub mod Texts
-pub mod Whole
+mod Rooted
+mod Singles
+mod NewTest
+mod Second
