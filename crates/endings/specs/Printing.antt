@@ -30,6 +30,10 @@ FinishEnds old new sink_rose text SinkFault = AppendsFront old new text × sink_
 FinishEnds old new sink_rose text SourceFault = ⊥
 FinishEnds old new sink_rose text Memory = ⊥
 
+-- the same, where there may not be memory for the text
+abbrev pub DoneEnds : Option (List ℕ) → Option (List ℕ) → Type 0 → List ℕ → Status → Type 0
+DoneEnds old new sink_rose text status = FinishEnds old new sink_rose text status ⊎ ((status ≡ Memory) × Prints old new sink_rose memory_text)
+
 -- how a call ends that stopped: with the status and the text of the stop, or for want of memory
 abbrev pub HaltEnds : Option (List ℕ) → Option (List ℕ) → Type 0 → List ℕ → Status → Status → Type 0
 HaltEnds old new sink_rose text wanted status =

@@ -1,5 +1,4 @@
 // What comes back from a call.
-ghost use Rattle.std.specs.Prelude.{◌≡◌};
 ghost use Rattle.endings.specs.Noted.{IsNothingNoted};
 
 use crate::status::Status;
@@ -14,20 +13,12 @@ pub struct Ended<V> {
     pub journal: Journal,
 }
 
-impl<V> Ended<V> {
-    /// The end of a call that did nothing to the store.
-    pub fn without_journal(alloc: Global, status: Status, drives: V) -> Ended<V>
-        ensures status { result.status ≡ status }
-        ensures drives { result.drives ≡ drives }
-        ensures noted { IsNothingNoted result.journal }
-    {
-        Ended {
-            status,
-            drives,
-            journal: Journal {
-                entries: Vec::new(alloc),
-                doubt: None,
-            },
-        }
+/// The journal of a call that did nothing to the store.
+pub fn empty_journal(alloc: Global) -> Journal
+    ensures { IsNothingNoted result }
+{
+    Journal {
+        entries: Vec::new(alloc),
+        doubt: None,
     }
 }

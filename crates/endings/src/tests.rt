@@ -10,10 +10,7 @@ use std::test::Fail;
 
 /// A sink whose calls of these numbers fail.
 fn sink(alloc: Global, fails: &[u64]) -> Result<MemSink, AllocError> {
-    Ok(MemSink::of(
-        Vec::new(alloc),
-        Vec::from_slice(alloc, fails)?,
-    ))
+    Ok(MemSink::of(Vec::new(alloc), Vec::from_slice(alloc, fails)?))
 }
 
 #[test]

@@ -1,5 +1,5 @@
 -- What an opening does, and what it answers: no file that is found changes, and the links that a commit left outstanding are set.
-use Rattle.std.specs.Prelude.{◌≡◌, ◌⊎◌, ℕ, ◌+◌, ◌-◌, ◌^◌, min, true, List, [], ◌∷◌, length, map, filter, sum, Option, Some, option_map, Result, Ok, Err, slice_get}
+use Rattle.std.specs.Prelude.{◌≡◌, ◌⊎◌, ℕ, ◌+◌, ◌-◌, ◌^◌, min, true, List, length, map, Option, Some, option_map, Result, Ok, Err, slice_get}
 use Rattle.drives.specs.declared.device.Half.{Half}
 use Rattle.drives.specs.Faults.{HasFailed}
 use Rattle.tree_model.specs.States.{State}
@@ -12,7 +12,7 @@ use Rattle.store_model.specs.Members.{names_none}
 use Rattle.store_model.specs.Changes.{IsLinked}
 use Rattle.store_model.specs.Found.{LaidStore, laid, found}
 use Rattle.store_check.specs.Checked.{LikeTable}
-use Rattle.store_check.specs.Files.{first_serial}
+use Rattle.store_check.specs.Files.{first_serial, kept_by}
 use Rattle.store_check.specs.Marks.{Marks}
 use Rattle.recovery.specs.declared.opened.Opened.{Opened}
 use Rattle.recovery.specs.declared.opened.OpenedOver.{OpenedOver}
@@ -31,13 +31,24 @@ abbrev pub store_of : {B : Type 0} → Result (OpenedOver B) (UnopenedOver B) �
 store_of (Ok o) = o.store
 store_of (Err e) = e.store
 
+-- no half failed in a write
+abbrev pub NoWriteFailed : OpenRefused → Type 0
+NoWriteFailed (ReadFault half) = Unit {0}
+NoWriteFailed (WriteFault half) = ⊥
+NoWriteFailed (BadStore block why) = Unit {0}
+NoWriteFailed Memory = Unit {0}
+
+abbrev pub IsUntorn : {V : Type 0} → Result (Opened V) (Unopened V) → Type 0
+IsUntorn (Ok o) = Unit {0}
+IsUntorn (Err e) = NoWriteFailed e.why
+
+abbrev pub IsUntornOver : {B : Type 0} → Result (OpenedOver B) (UnopenedOver B) → Type 0
+IsUntornOver (Ok o) = Unit {0}
+IsUntornOver (Err e) = NoWriteFailed e.why
+
 -- on halves of so many blocks the first contents and the second ones stand for the same files, or for none for the same cause
 abbrev pub SameFound : ℕ → (ℕ → Option (List ℕ)) → (ℕ → Option (List ℕ)) → Type 0
 SameFound most f g = found g most ≡ found f most
-
--- how many blocks the versions of a file hold: each counts its own pages
-abbrev pub kept_by : List LaidVersion → ℕ
-kept_by versions = sum (map (λ version. length (filter (λ node. node.is_own) version.nodes)) versions)
 
 -- what is told of the versions of a file: the block of the last one, the serials of the first and the last one, and how many blocks they hold
 abbrev pub head_of : List LaidVersion → Option Head

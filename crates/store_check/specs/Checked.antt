@@ -1,8 +1,9 @@
 -- The check of a store, and what it answers.
-use Rattle.std.specs.Prelude.{◌≡◌, ℕ, ◌<◌, nat_le, List, [], map, length, Option, Some, Result, Ok, Err}
+use Rattle.std.specs.Prelude.{◌≡◌, ℕ, ◌+◌, ◌<◌, nat_le, List, [], map, length, Option, Some, Result, Ok, Err}
 use Rattle.page_codec.specs.declared.why.Why.TheVariants.{Blocks as TooMany}
 use Rattle.page_codec.specs.Values.{RootValue, TableValue}
 use Rattle.page_codec.specs.TableReading.{root_of}
+use Rattle.block_map.specs.States.{free_count}
 use Rattle.store_model.specs.Walk.{Blocks, Walk, ◌>>=◌, ◌>>◌, done, check, decoded, content_at}
 use Rattle.store_model.specs.Tables.{table_rows, files_from}
 use Rattle.store_model.specs.Members.{tops_from, tops_linked}
@@ -12,6 +13,7 @@ use Rattle.store_check.specs.declared.checking.Checked.{Checked}
 use Rattle.store_check.specs.declared.checking.Found.{Found}
 use Rattle.store_check.specs.Marks.{Marks}
 use Rattle.store_check.specs.Files.{chains_of}
+use Rattle.store_check.specs.Counts.{parts_in, kept_in}
 use Rattle.store_check.specs.Results.{Outcome, Stops}
 
 -- block 0, on halves of so many blocks
@@ -38,12 +40,14 @@ pub record LikeTable (table : TableValue) (store : LaidStore) : Type 0 where
   pub parts : table.parts ≡ store.root.parts
   pub entries : table.entries ≡ map (λ file. file.entry) store.files
 
--- what is told of a store that was found: its table, block 0 and the places in the map, and the last version of each object
+-- what is told of a store that was found: its table, block 0 and the places in the map, what is kept of each object's file, and that a
+-- block is free, or is block 0, a part of the table, or a page of one version's own
 pub record LikeStore (checked : Checked) (store : LaidStore) (places : List ℕ) : Type 0 where
   pub table : LikeTable checked.table store
   pub size : length checked.map ≡ store.root.blocks
   pub map : Marks places checked.map
   pub heads : checked.heads.items ≡ chains_of store.files
+  pub free : free_count checked.map + 1 + parts_in store.root + kept_in store.files ≡ store.root.blocks
 
 -- the answer is the store that is found, or the first cause; a fault and want of memory say nothing
 abbrev pub Answers : Result Checked CheckRefused → Outcome LaidStore → Type 0
@@ -59,6 +63,7 @@ pub record IsMended (settled : ℕ → Type 0) (content : ℕ → Option (List �
 abbrev pub IsEnded : Result Found CheckRefused → ℕ → List ℕ → Result Checked CheckRefused → Type 0
 IsEnded (Ok found) count places (Ok checked) =
     (checked.table ≡ found.table) × (checked.heads ≡ found.linked.chains) × (length checked.map ≡ count) × Marks places checked.map
+    × (free_count checked.map + 1 + length places ≡ count)
 IsEnded (Ok found) count places (Err e) = ⊥
 IsEnded (Err e) count places (Ok checked) = ⊥
 IsEnded (Err e) count places (Err f) = f ≡ e

@@ -1,6 +1,7 @@
 -- Files as the walk in code keeps them.
-use Rattle.std.specs.Prelude.{◌≡◌, ℕ, List, [], ◌∷◌, map, Option, Some, option_map}
-use Rattle.std.specs.List.{AllByRecursion}
+use Rattle.std.specs.Prelude.{◌≡◌, ℕ, List, [], ◌∷◌, map, filter, length, Option, Some, None, option_map, if◌then◌else◌}
+use Rattle.std.specs.List.{AllByRecursion, sum_by}
+use Rattle.std.specs.Option.{is_none}
 use Rattle.draft_model.specs.Places.{Store}
 use Rattle.store_model.specs.Laid.{LaidVersion, LaidFile, last_laid}
 use Rattle.store_check.specs.declared.version.FoundVersion.{FoundVersion}
@@ -13,9 +14,28 @@ abbrev pub first_serial : List LaidVersion → ℕ
 first_serial [] = 0
 first_serial (version ∷ others) = version.serial
 
--- what is kept of the versions of a file: its last one, and the serial of its first one
+-- the block of the version before the last one, where that does not name the last
+abbrev pub unset_base : List LaidVersion → Option ℕ
+unset_base [] = None
+unset_base (last ∷ []) = None
+unset_base (base ∷ last ∷ []) = if is_none base.commit then Some base.block else None
+unset_base (first ∷ second ∷ third ∷ others) = unset_base (second ∷ third ∷ others)
+
+-- how many of a version's pages are its own: each of them is in a block that no earlier version has
+abbrev pub own_pages : LaidVersion → ℕ
+own_pages version = length (filter (λ node. node.is_own) version.nodes)
+
+-- how many blocks the versions of a file hold
+abbrev pub kept_by : List LaidVersion → ℕ
+kept_by versions = sum_by own_pages versions
+
+-- what is kept of the versions of a file: its last one, the serial of its first one, the version whose link to the last one is
+-- outstanding, and how many blocks they hold
 abbrev pub chain_of : List LaidVersion → Option Chain
-chain_of versions = option_map (λ last. record { last = shown_of last; first = first_serial versions }) (last_laid versions)
+chain_of versions =
+    option_map
+    (λ last. record { last = shown_of last; first = first_serial versions; unset = unset_base versions; kept = kept_by versions })
+    (last_laid versions)
 
 -- what is kept of files
 abbrev pub chains_of : List LaidFile → List (Option Chain)

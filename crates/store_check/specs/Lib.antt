@@ -7,5 +7,6 @@ pub mod Before
 pub mod Versions
 pub mod Rows
 pub mod Files
+pub mod Counts
 pub mod Tops
 pub mod Checked

@@ -1,6 +1,7 @@
 -- Members of other files, as the walk in code keeps them.
-use Rattle.std.specs.Prelude.{◌≡◌, ◌==◌, ◌&&◌, ◌+◌, ◌-◌, ℕ, suc, ◌<◌, nat_eq, Bool, not, List, [], ◌∷◌, ◌++◌, length, Option, Some, None, Result, Ok, Err, slice_get, if◌then◌else◌}
+use Rattle.std.specs.Prelude.{◌≡◌, ◌==◌, ◌&&◌, ◌+◌, ◌-◌, ℕ, suc, ◌<◌, ◌≤◌, nat_eq, Bool, not, List, [], ◌∷◌, ◌++◌, length, Option, Some, None, Result, Ok, Err, slice_get, if◌then◌else◌}
 use Rattle.std.specs.List.{list_any}
+use Rattle.std.specs.Option.{is_none}
 use Rattle.page_codec.specs.declared.why.Why.TheVariants.{Member}
 use Rattle.draft_model.specs.Places.{Store}
 use Rattle.store_model.specs.Members.{Top as ModelTop, Linked as ModelLinked}
@@ -12,6 +13,7 @@ use Rattle.store_check.specs.declared.chain.Chain.{Chain}
 use Rattle.store_check.specs.declared.tops.Top.{Top}
 use Rattle.store_check.specs.declared.tops.Linked.{Linked}
 use Rattle.store_check.specs.Files.{LikeFiles}
+use Rattle.store_check.specs.Counts.{kept_in}
 
 -- the object, whose last version this is, as a top where that names members
 abbrev pub top_in : ℕ → Option Chain → List Top
@@ -31,9 +33,11 @@ shown_top top = record { object = top.object; block = top.version.block; members
 pub record AreNamed (named : List ℕ) (marks : List Bool) : Type 0 where
   pub is : (k : ℕ) → k < length marks → slice_get marks k ≡ Some (list_any (nat_eq (k + 1)) named)
 
--- what is kept of the files with the members that were linked so far, and of the objects that were named
-pub record LikeLinked (store : Store) (count : ℕ) (kept : Linked) (linked : ModelLinked) : Type 0 where
+-- what is kept of the files with the members that were linked so far, whose blocks are among these places, and of the objects that
+-- were named
+pub record LikeLinked (store : Store) (count : ℕ) (places : List ℕ) (kept : Linked) (linked : ModelLinked) : Type 0 where
   pub files : LikeFiles store count kept.chains.items linked.files
+  pub few : kept_in linked.files ≤ length places
   pub named : AreNamed linked.named kept.named.items
   pub size : length kept.named.items ≡ length kept.chains.items
 
@@ -52,3 +56,11 @@ prior_in top object (Some None) mark = Err (BadStore top.block Member)
 prior_in top object (Some (Some chain)) None = Err (BadStore top.block Member)
 prior_in top object (Some (Some chain)) (Some mark) =
     if may_link top.object object chain.last mark then Ok (record { serial = chain.last.serial; block = chain.last.block }) else Err (BadStore top.block Member)
+
+-- the block of a version that names no next one
+abbrev pub unset_of : FoundVersion → Option ℕ
+unset_of version = if is_none version.commit then Some version.block else None
+
+-- what is kept of a file with one more version, which holds so many blocks
+abbrev pub with_last : FoundVersion → ℕ → Chain → Chain
+with_last last pages chain = record { last = last; first = chain.first; unset = unset_of chain.last; kept = chain.kept + pages }

@@ -18,11 +18,17 @@ use crate::version::{FoundVersion, Prior, version_at};
 use afs_base::BlockNo;
 use pair_store::Blocks;
 
-/// What is kept of a file: its last version, and the serial of its first one.
+/// What is kept of a file.
 #[derive(Debug, Drop)]
 pub struct Chain {
+    /// Its last version.
     pub last: FoundVersion,
+    /// The serial of its first version.
     pub first: u64,
+    /// The block of the version before the last one, where that names no next version: the link to the last one is outstanding.
+    pub unset: Option<BlockNo>,
+    /// How many blocks its versions hold, at most 65535: each version's own pages.
+    pub kept: u32,
 }
 
 /// The next version of a file, in block `n`.
@@ -88,11 +94,14 @@ pub fn chain_at<B: Blocks>(
     ensures unread { (h : Half) → IsErrOf result (CheckRefused.ReadFault h)
         → IsUnreadSince B.tells B.moment B.content B.settled B.faults B.last_fault survey.new.began survey.new.store h }
 {
+    let found = survey.found();
     let first = version_at(survey, object, namer, n, &None)?;
     let serial = first.serial;
     let last = last_from(survey, object, first)?;
     Ok(Chain {
         last,
         first: serial,
+        unset: None,
+        kept: survey.found().saturating_sub(found),
     })
 }

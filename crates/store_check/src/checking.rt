@@ -19,21 +19,18 @@ use crate::reading::Reading;
 use crate::refused::CheckRefused;
 use crate::rows::{Row, root_block, table_rows};
 use crate::survey::Survey;
-use crate::tops::{Link, Linked, Top, link_tops, tops_of};
+use crate::tops::{Linked, link_tops, tops_of};
 use block_map::BlockMap;
 use page_codec::{Table, TableRoot, Why, decode_root};
 use pair_store::Blocks;
 use std::alloc::{AllocError, Global};
 
-/// A lawful store: its table, which blocks are in use, the last version of each object where it is live, the links that
-/// are to be set, and the versions that name members. No clause speaks of the last two yet; tests do.
+/// A lawful store: its table, which blocks are in use, and what is kept of the file of each object where it is live.
 #[derive(Drop)]
 pub struct Checked {
     pub table: Table,
     pub map: BlockMap,
     pub heads: Vec<Option<Chain>>,
-    pub links: Vec<Link>,
-    pub tops: Vec<Top>,
 }
 
 /// Block 0 of a store on halves of so many blocks.
@@ -97,12 +94,11 @@ fn table_of(alloc: Global, root: &TableRoot, rows: &[Row]) -> Result<Table, Allo
     Ok(table)
 }
 
-/// What a walk found: the table, the files, the links that are to be set, and the tops.
+/// What a walk found: the table, and the files.
 #[derive(Drop)]
 struct Found {
     table: Table,
     linked: Linked,
-    tops: Vec<Top>,
 }
 
 /// No object was named yet.
@@ -131,17 +127,9 @@ fn link_files<B: Blocks>(
 {
     let tops = tops_of(alloc, chains.as_slice())?;
     let named = none_named(alloc, chains.len())?;
-    let mut linked = Linked {
-        chains,
-        named,
-        links: Vec::new(alloc),
-    };
+    let mut linked = Linked { chains, named };
     link_tops(survey, tops.as_slice(), &mut linked)?;
-    Ok(Found {
-        table,
-        linked,
-        tops,
-    })
+    Ok(Found { table, linked })
 }
 
 /// The walk over a store, from its block 0 on.
@@ -170,22 +158,12 @@ fn checked_of(found: Found, map: BlockMap) -> Checked
     ensures map { result.map ≡ map }
     ensures heads { result.heads ≡ found.linked.chains }
 {
-    let Found {
-        table,
-        linked,
-        tops,
-    } = found;
-    let Linked {
-        chains,
-        named: _,
-        links,
-    } = linked;
+    let Found { table, linked } = found;
+    let Linked { chains, named: _ } = linked;
     Checked {
         table,
         map,
         heads: chains,
-        links,
-        tops,
     }
 }
 

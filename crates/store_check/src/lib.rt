@@ -19,7 +19,6 @@ pub use chain::Chain;
 pub use checking::{Checked, check};
 pub use refused::CheckRefused;
 pub use rows::root_block;
-pub use tops::{Link, Top};
 pub use version::FoundVersion;
 
 #[cfg(test)]

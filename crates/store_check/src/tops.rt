@@ -35,19 +35,11 @@ pub struct Top {
     pub members: Members,
 }
 
-/// A link that a commit left to be set: the commit reference of the version in `base` is to name block `next`.
-#[derive(Clone, Copy, Debug)]
-pub struct Link {
-    pub base: BlockNo,
-    pub next: BlockNo,
-}
-
-/// The last versions of the objects of a store, which objects were named as members or as tops, and the links that are to be set.
+/// What is kept of the files of a store, and which objects were named as members or as tops.
 #[derive(Drop)]
 pub struct Linked {
     pub chains: Vec<Option<Chain>>,
     pub named: Vec<bool>,
-    pub links: Vec<Link>,
 }
 
 fn copy_of(members: &Members) -> Members

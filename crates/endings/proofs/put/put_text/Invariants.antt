@@ -1,10 +1,10 @@
-use Rattle.std.proofs.Common.{◌≡◌, ℕ, ◌≤◌, List, ◌++◌, length}
-use Rattle.std.specs.Io.KnownBytes.{Appends}
+use Rattle.std.proofs.Common.{◌≤◌, length}
+use Rattle.endings.proofs.Printing.{PrintedSoFar}
 use Rattle.endings.proofs.put.put_text.Given as goal
 
 abbrev pub invariant-lines : goal.invariant-lines
 invariant-lines g l = record {
-  printed : (front : List ℕ) × Appends (g.K.Sink.written l.fn.out) (g.K.Sink.written l.out) front × (front ++ l.rest ≡ l.text);
+  printed : PrintedSoFar (g.K.Sink.written l.fn.out) (g.K.Sink.written l.out) l.rest l.text;
   later : g.K.Sink.faults l.fn.out ≤ g.K.Sink.faults l.out;
 }
 

@@ -1,0 +1,4 @@
+pub mod Texts
+pub mod Formatting
+pub mod Opening
+pub mod Counting

@@ -1,0 +1,44 @@
+//! Each call failing once while a store is made, and each image of each moment then: no store, or the new one.
+use super::*;
+use std::test::*;
+
+/// Whether each image of each moment by one pick is checked as no store, or as the new one of one file in four blocks.
+fn are_found(alloc: Global, drives: &MemDrives, pick: Pick) -> Result<bool, Fail> {
+    let mut fine = true;
+    for moment in 0..=drives.now() {
+        let mut out = sink(alloc, &[])?;
+        let ended = afs_check(alloc, drives.image(moment, pick)?, &mut out);
+        fine = fine
+            && match ended.status.code() {
+                0 => out.bytes() == b"files 1 versions 1 blocks 1 free 2\n",
+                4 => out.bytes() == b"bad store: block 0 closed\n",
+                _ => false,
+            };
+    }
+    Ok(fine)
+}
+
+#[test]
+fn each_failing_call_names_its_half_and_leaves_no_store_or_the_new_one(
+    rt: HostRuntime,
+) -> Result<(), Fail> {
+    let alloc = rt.alloc();
+    let table: [(u64, u64, &[u8]); 6] = [
+        (1, 3, b"drive A\n"),
+        (4, 6, b"drive B\n"),
+        (7, 13, b"drive B\n"),
+        (14, 20, b"drive A\n"),
+        (21, 25, b"drive B\n"),
+        (26, 30, b"drive A\n"),
+    ];
+    for (first, last, line) in table {
+        for failing in first..=last {
+            let (ended, out) = format_new(alloc, 1, 4, &[failing], &[])?;
+            ended_so(&rt, &ended, &out, (3, line));
+            for pick in [Pick::Old, Pick::New, Pick::Fill(0xa5)] {
+                assert!(rt; are_found(alloc, &ended.drives, pick)?, "call {failing}");
+            }
+        }
+    }
+    Ok(())
+}
