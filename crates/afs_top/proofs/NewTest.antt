@@ -1,5 +1,5 @@
 -- When an opened store is the new one that is served.
-use Rattle.std.proofs.Common.{◌≡◌, ℕ, zero, suc, ◌+◌, ◌≤◌, ◌<◌, Bool, true, false, nat_le, List, [], ◌∷◌, length, map, filter, Option, Some, None, option_map, MatchBool, Ok, refl, sym, ap, subst, ◌∙◌, slice_get, arith, cond}
+use Rattle.std.proofs.Common.{◌≡◌, ◌↔◌, inl, inr, ℕ, zero, suc, ◌+◌, ◌≤◌, ◌<◌, Bool, true, false, nat_le, List, [], ◌∷◌, length, map, filter, Option, Some, None, option_map, MatchBool, Ok, refl, sym, ap, subst, ◌∙◌, slice_get, arith, cond}
 use Rattle.std.specs.List.{range_with_len}
 use Rattle.std.proofs.lemmas.Bool.{leb-true, le-leb}
 use Rattle.std.proofs.lemmas.List.Sums.{sum_by-cons}
@@ -10,7 +10,9 @@ use Rattle.block_map.specs.declared.states.BlockState.{BlockState}
 use Rattle.page_codec.specs.NewStore.{secret_of}
 use Rattle.page_codec.specs.Numbers.{zeros}
 use Rattle.page_codec.specs.Values.{EntryValue, TableValue, VersionValue}
-use Rattle.recovery.specs.Opening.{IsOpened, head_of, heads_of, kept_by}
+use Rattle.pair_store.specs.ContentLaws.{decide}
+use Rattle.recovery.specs.Opening.{IsOpened, head_of, heads_of}
+use Rattle.store_check.specs.Files.{kept_by, own_pages}
 use Rattle.tree_model.specs.States.{State, File, Version}
 use Rattle.version_chain.specs.declared.head.Head.{Head}
 use Rattle.store_model.specs.Laid.{Node, LaidVersion, LaidFile}
@@ -24,19 +26,51 @@ use Rattle.afs_top.specs.Served.{IsBlank, IsNewFile, IsNewTable, served_state}
 use Rattle.afs_top.proofs.Rooted.{AllRooted, all_rooted}
 use Rattle.afs_top.proofs.Singles.{OneFirst, Single, blank_version_is, no_versions, one_first, single, version_blank}
 
+-- what the test of a live file's entry and head comes to
+pub live_is : (object : ℕ) (entry : EntryValue) (head : Option Head) (h : Head) → nat_le object 2 ≡ true → head ≡ Some h
+    → ((entry.generation ≡ 1) × ((entry.secret ≡ secret_of 7 object 1) × ((h.first ≡ 1) × (h.serial ≡ 1) × (h.kept ≡ 1)))) ↔ IsNewFile object entry head
+live_is object entry head h live is =
+    let Live : Type 0 = (entry.generation ≡ 1) × (entry.secret ≡ secret_of 7 object 1) × ((block : ℕ) × (head ≡ Some (record { block = block; first = 1; serial = 1; kept = 1 }))) in
+    let Dead : Type 0 = (entry.generation ≡ 0) × (entry.secret ≡ zeros 8) × (head ≡ None) in
+    let M : Bool → Type 0 = λ b. MatchBool b Live Dead in
+    (
+      λ x. subst M (sym live) (x.0, x.1.0, (h.block, is ∙ (λ i. Some (record { block = h.block; first = x.1.1.0 i; serial = x.1.1.1 i; kept = x.1.1.2 i })))),
+      λ y.
+          let z : Live = subst M live y in
+          let one : h ≡ record { block = z.2.0; first = 1; serial = 1; kept = 1 } = some_is (sym is ∙ z.2.1) in
+          (z.0, (z.1, (ap (λ (x : Head). x.first) one, ap (λ (x : Head). x.serial) one, ap (λ (x : Head). x.kept) one))),
+    )
+
+-- one more entry and head were tested
+pub one_more : (P : ℕ → EntryValue → Option Head → Type 0) (entries : List EntryValue) (heads : List (Option Head)) (i : ℕ) (e : EntryValue) (h : Option Head)
+    → ((k : ℕ) (entry : EntryValue) (head : Option Head) → k < i → slice_get entries k ≡ Some entry → slice_get heads k ≡ Some head → P k entry head)
+    → slice_get entries i ≡ Some e → slice_get heads i ≡ Some h → P i e h
+    → (k : ℕ) (entry : EntryValue) (head : Option Head) → k < i + 1 → slice_get entries k ≡ Some entry → slice_get heads k ≡ Some head → P k entry head
+one_more P entries heads i e h earlier at_e at_h here k entry head low is_e is_h =
+    elim (decide k i) [
+      | inl same ↦
+          let one : e ≡ entry = some_is (sym at_e ∙ ap (slice_get entries) (sym same) ∙ is_e) in
+          let two : h ≡ head = some_is (sym at_h ∙ ap (slice_get heads) (sym same) ∙ is_h) in
+          let A : ℕ → Type 0 = λ n. P n entry head in
+          let B : EntryValue → Type 0 = λ x. P i x head in
+          let C : Option Head → Type 0 = λ x. P i e x in
+          subst A (sym same) (subst B one (subst C two here))
+      | inr apart ↦ earlier k entry head (omega (arith, low, apart)) is_e is_h
+    ]
+
 module _ (c : Content) (most : ℕ) (table : TableValue) (states : List BlockState) (heads : List (Option Head)) (x : IsOpened c most table states heads) where
   -- the entry and the head of a file
-  entry_at : (k : ℕ) (file : LaidFile) → slice_get x.store.files k ≡ Some file → slice_get table.entries k ≡ Some file.entry
+  pub entry_at : (k : ℕ) (file : LaidFile) → slice_get x.store.files k ≡ Some file → slice_get table.entries k ≡ Some file.entry
   entry_at k file at = ap (λ (es : List EntryValue). slice_get es k) x.table.entries ∙ slice_get-map (λ (f : LaidFile). f.entry) x.store.files k ∙ ap (option_map (λ (f : LaidFile). f.entry)) at
 
-  head_at : (k : ℕ) (file : LaidFile) → slice_get x.store.files k ≡ Some file → slice_get heads k ≡ Some (head_of file.versions)
+  pub head_at : (k : ℕ) (file : LaidFile) → slice_get x.store.files k ≡ Some file → slice_get heads k ≡ Some (head_of file.versions)
   head_at k file at = ap (λ hs. slice_get hs k) x.heads ∙ slice_get-map (λ (f : LaidFile). head_of f.versions) x.store.files k ∙ ap (option_map (λ (f : LaidFile). head_of f.versions)) at
 
-  file_count : length table.entries ≡ length x.store.files
+  pub file_count : length table.entries ≡ length x.store.files
   file_count = ap length x.table.entries ∙ length-map x.store.files (λ (f : LaidFile). f.entry)
 
   -- the file of a head
-  file_at : (k : ℕ) (head : Option Head) → slice_get heads k ≡ Some head → (file : LaidFile) × (slice_get x.store.files k ≡ Some file) × (head ≡ head_of file.versions)
+  pub file_at : (k : ℕ) (head : Option Head) → slice_get heads k ≡ Some head → (file : LaidFile) × (slice_get x.store.files k ≡ Some file) × (head ≡ head_of file.versions)
   file_at k head at = of (slice_get x.store.files k) refl
     where
       heads_are : slice_get heads k ≡ option_map (λ (f : LaidFile). head_of f.versions) (slice_get x.store.files k)
@@ -46,11 +80,11 @@ module _ (c : Content) (most : ℕ) (table : TableValue) (states : List BlockSta
       of None is = none_some (sym (ap (option_map (λ (f : LaidFile). head_of f.versions)) is) ∙ sym heads_are ∙ at)
       of (Some file) is = (file, is, some_is (sym at ∙ heads_are ∙ ap (option_map (λ (f : LaidFile). head_of f.versions)) is))
 
-  rooted_at : (k : ℕ) (file : LaidFile) → slice_get x.store.files k ≡ Some file → AllRooted file
+  pub rooted_at : (k : ℕ) (file : LaidFile) → slice_get x.store.files k ≡ Some file → AllRooted file
   rooted_at k file at = each_get AllRooted x.store.files k file (all_rooted c most x.store x.places x.laid) at
 
   -- the pages of the first two files' versions are blank
-  pub BlankPages : Type 0
+  abbrev pub BlankPages : Type 0
   BlankPages = (k : ℕ) (file : LaidFile) (v : LaidVersion) (page : VersionValue) → k < 2 → slice_get x.store.files k ≡ Some file → file.versions ≡ v ∷ []
       → version_in_block c v.block ≡ Some page → IsBlank page.page
 
@@ -65,7 +99,7 @@ module _ (c : Content) (most : ℕ) (table : TableValue) (states : List BlockSta
       of true is h =
           let low : k + 1 ≤ 2 = leb-true (k + 1) 2 is in
           let one : OneFirst file.versions h.2.0 = one_first file.versions h.2.0 (rooted_at k file at) h.2.1 in
-          let s : Single c one.version = single c most x.store x.places x.laid k file one.version at one.is in
+          let s : Single c x.store.root.blocks one.version = single c most x.store x.places x.laid k file one.version at one.is in
           let version : version_in one.version ≡ blank_version =
           blank_version_is c most x.store x.places x.laid k file h.2.0 one at s.page s.held (blank k file one.version s.page (omega arith) at one.is s.held) in
           let versions : map version_in file.versions ≡ blank_version ∷ [] = ap (map version_in) one.is ∙ ap (λ v. v ∷ []) version in
@@ -137,7 +171,7 @@ module _ (c : Content) (most : ℕ) (table : TableValue) (states : List BlockSta
             let serial : one.version.serial ≡ 1 = ap (λ (v : Version). v.serial) one.blank in
             let paths : map (λ (n : Node). n.path) (filter (λ (n : Node). n.is_own) one.version.nodes) ≡ [] ∷ [] = ap (λ (v : Version). v.fresh) one.blank in
             let own : length (filter (λ (n : Node). n.is_own) one.version.nodes) ≡ 1 = sym (length-map (filter (λ (n : Node). n.is_own) one.version.nodes) (λ (n : Node). n.path)) ∙ ap length paths in
-            let kept : kept_by (one.version ∷ []) ≡ 1 = sum_by-cons (λ y. y) (length (filter (λ (n : Node). n.is_own) one.version.nodes)) [] ∙ omega (arith, own) in
+            let kept : kept_by (one.version ∷ []) ≡ 1 = sum_by-cons own_pages one.version [] ∙ omega (arith, own) in
             (
               ap (λ (y : File). y.generation) f,
               ap (λ (y : File). y.secret) f,

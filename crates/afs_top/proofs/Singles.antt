@@ -1,6 +1,7 @@
 -- A file of a store that is found with one version: what its block holds, and when that version is a blank one.
-use Rattle.std.proofs.Common.{◌≡◌, ℕ, zero, suc, ◌+◌, ◌-◌, ◌≤◌, Bool, true, false, cond, List, [], ◌∷◌, ◌++◌, length, map, filter, sum, sum_by, inl, inr, ◌⊎◌, Option, Some, None, option_map, nat_eq, ◌||◌, Ok, refl, sym, ap, subst, ◌∙◌, slice_get, arith, length-append, true≢false}
+use Rattle.std.proofs.Common.{◌≡◌, ℕ, zero, suc, ◌+◌, ◌-◌, ◌<◌, ◌≤◌, Bool, true, false, cond, List, [], ◌∷◌, ◌++◌, length, map, filter, sum, sum_by, inl, inr, ◌⊎◌, Option, Some, None, option_map, nat_eq, ◌||◌, Ok, refl, sym, ap, subst, ◌∙◌, slice_get, arith, length-append, true≢false}
 use Rattle.std.proofs.lemmas.List.Sums.{sum_by-cons}
+use Rattle.std.proofs.lemmas.Option.{slice_get-get_or}
 use Rattle.std.specs.FinMap as finmap
 use Rattle.std.specs.FinMap.{get-from_entries}
 use Rattle.std.specs.List.{list_any}
@@ -9,8 +10,8 @@ use Rattle.afs_base.specs.Path.{path_cmp}
 use Rattle.draft_model.specs.Places.{Store, Holds, same, block_at, slot_block}
 use Rattle.page_codec.specs.Values.{PageValue, ReferenceValue, VersionValue}
 use Rattle.page_codec.specs.Causes.{version_of}
-use Rattle.recovery.specs.Opening.{head_of, kept_by}
-use Rattle.store_check.specs.Files.{first_serial}
+use Rattle.recovery.specs.Opening.{head_of}
+use Rattle.store_check.specs.Files.{first_serial, kept_by, own_pages as own_number}
 use Rattle.tree_model.specs.States.{Version}
 use Rattle.tree_model.specs.Trees.{Tree}
 use Rattle.tree_model.proofs.Paths.{path_total, path_only, same_self, told}
@@ -40,11 +41,12 @@ use Rattle.afs_top.proofs.Rooted.{Rooted}
 -- ---- the block of the one version
 
 -- the version page in the block of a version: no other follows it
-pub record Single (c : Content) (v : LaidVersion) : Type 0 where
+pub record Single (c : Content) (blocks : ℕ) (v : LaidVersion) : Type 0 where
   pub page : VersionValue
   pub held : version_in_block c v.block ≡ Some page
   pub nil : page.commit ≡ None
   pub low : 1 ≤ v.block
+  pub high : v.block < blocks
 
 -- one version more than some is not one
 longer_than : (xs : List LaidVersion) (w v base : LaidVersion) → last_laid xs ≡ Some base → xs ++ w ∷ [] ≡ v ∷ [] → ⊥
@@ -55,28 +57,31 @@ longer_than (x ∷ xs) w v base last e =
     omega arith
 
 pub single : (c : Content) (most : ℕ) (store : LaidStore) (places : List ℕ) → laid c most [] ≡ Ok (store, places)
-    → (k : ℕ) (file : LaidFile) (v : LaidVersion) → slice_get store.files k ≡ Some file → file.versions ≡ v ∷ [] → Single c v
+    → (k : ℕ) (file : LaidFile) (v : LaidVersion) → slice_get store.files k ≡ Some file → file.versions ≡ v ∷ [] → Single c store.root.blocks v
 single c most store places e k file v listed one =
     let p : Parts c most store places = parts_of c most store places e in
     of p (ap (λ (s : LaidStore). slice_get s.files k) (sym p.made) ∙ listed)
     (tops_outcome c c p.root.blocks k (λ w. w) (λ w. same_version w) (tops_from 1 p.files) (unlinked p.files) p.in_files p.linked places p.tops)
   where
-    chain : (p : Parts c most store places) → slice_get p.files k ≡ Some file → Single c v
+    chain : (p : Parts c most store places) → slice_get p.files k ≡ Some file → Single c store.root.blocks v
     chain p here =
         let fa : FilesAgain c c p.root.blocks (suc k) 1 k file p.rows p.in_table p.files p.in_files =
         files_again c c p.root.blocks (suc k) 1 k file p.rows p.in_table p.files p.in_files 0 v (omega arith) p.chains here (ap (λ (l : List LaidVersion). slice_get l 0) one) in
         let is : v ≡ last_from fa.head fa.rest = last_is file.versions fa.head fa.rest v fa.list (ap last_laid one) in
+        let count : store.root.blocks ≡ p.root.blocks = ap (λ (s : LaidStore). s.root.blocks) p.made in
+        let high : (last_from fa.head fa.rest).block < p.root.blocks = (fa.each (last_from fa.head fa.rest).block fa.last.here).1 in
         let low : 1 ≤ (last_from fa.head fa.rest).block = (fa.each (last_from fa.head fa.rest).block fa.last.here).0 in
         record {
           page = fa.last.page;
           held = ap (λ (w : LaidVersion). version_in_block c w.block) is ∙ fa.last.was;
           nil = sym fa.last.commit_is ∙ chained_last fa.head fa.rest fa.chained;
           low = subst (λ (w : LaidVersion). 1 ≤ w.block) (sym is) low;
+          high = subst (λ (n : ℕ). v.block < n) (sym count) (subst (λ (w : LaidVersion). w.block < p.root.blocks) (sym is) high);
         }
 
     of : (p : Parts c most store places) → slice_get p.linked.files k ≡ Some file
         → Outcome c c p.root.blocks k (λ w. w) (tops_linked (blocks_of c p.root.blocks) (tops_from 1 p.files)) (objects_in (tops_from 1 p.files)) (unlinked p.files) p.in_files p.linked places
-        → Single c v
+        → Single c store.root.blocks v
     of p there (missed m) =
         chain p (sym (tops_step c c p.root.blocks k (tops_from 1 p.files) (unlinked p.files) p.in_files p.linked places (inr (inl m)) p.tops).kept ∙ there)
     of p there (frozen f) = chain p (sym f.kept ∙ there)
@@ -100,17 +105,14 @@ own_pages_are v r = ap (filter (λ (n : Node). n.is_own)) r.is ∙ own_first r.r
 own_count : (v : LaidVersion) → Rooted v → 1 ≤ length (own_pages v)
 own_count v r = let size : length (own_pages v) ≡ suc (length (filter (λ (n : Node). n.is_own) r.others)) = ap length (own_pages_are v r) in omega arith
 
-abbrev counts_of : List LaidVersion → List ℕ
-counts_of versions = map (λ (v : LaidVersion). length (own_pages v)) versions
-
 kept_first : (v : LaidVersion) (versions : List LaidVersion) → kept_by (v ∷ versions) ≡ length (own_pages v) + kept_by versions
-kept_first v versions = sum_by-cons (λ x. x) (length (own_pages v)) (counts_of versions)
+kept_first v versions = sum_by-cons own_number v versions
 
 -- a file of which a head tells that it has a first version alone
-pub record OneFirst (versions : List LaidVersion) (block : ℕ) : Type 0 where
+pub record OneFirst (versions : List LaidVersion) (named : ℕ) : Type 0 where
   pub version : LaidVersion
   pub is : versions ≡ version ∷ []
-  pub block : version.block ≡ block
+  pub block : version.block ≡ named
   pub serial : version.serial ≡ 1
   pub fresh : map (λ (n : Node). n.path) (own_pages version) ≡ [] ∷ []
 
@@ -155,8 +157,9 @@ no_head None first kept e = refl
 no_head (Some last) first kept e = absurd cc
 
 some_last : (v : LaidVersion) (vs : List LaidVersion) → last_laid (v ∷ vs) ≡ None → ⊥
-some_last v [] e = none_some (sym e)
-some_last v (w ∷ ws) e = some_last w ws e
+some_last v vs e =
+    let one : length (v ∷ vs) - 1 ≡ length vs = omega arith in
+    none_some (sym e ∙ ap (slice_get (v ∷ vs)) one ∙ slice_get-get_or (v ∷ vs) (length vs) v (omega arith))
 
 pub no_versions : (versions : List LaidVersion) → head_of versions ≡ None → versions ≡ []
 no_versions [] e = refl
@@ -187,11 +190,12 @@ record UsedSlot (refs : List ReferenceValue) : Type 0 where
 
 used_slot : (refs : List ReferenceValue) → list_any (λ (x : ReferenceValue). is_some x.block) refs ≡ true → UsedSlot refs
 used_slot [] some = absurd (true≢false (sym some))
-used_slot (x ∷ xs) some = of x.block refl some
+used_slot (x ∷ xs) some = of x.block refl some (used_slot xs)
   where
-    of : (o : Option ℕ) → x.block ≡ o → (is_some o || list_any (λ (y : ReferenceValue). is_some y.block) xs) ≡ true → UsedSlot (x ∷ xs)
-    of None is h = let rest : UsedSlot xs = used_slot xs h in record { slot = suc rest.slot; block = rest.block; names = rest.names }
-    of (Some n) is h = record { slot = 0; block = n; names = is }
+    of : (o : Option ℕ) → x.block ≡ o → (is_some o || list_any (λ (y : ReferenceValue). is_some y.block) xs) ≡ true
+        → (list_any (λ (y : ReferenceValue). is_some y.block) xs ≡ true → UsedSlot xs) → UsedSlot (x ∷ xs)
+    of None is h others = let rest : UsedSlot xs = others h in record { slot = suc rest.slot; block = rest.block; names = rest.names }
+    of (Some n) is h others = record { slot = 0; block = n; names = is }
 
 -- the page of a version, as the blocks hold it
 page_held : (c : Content) (v : LaidVersion) (page : VersionValue) → version_in_block c v.block ≡ Some page → pages_of c v.block ≡ Some page.page
@@ -219,21 +223,19 @@ blank_tree c v page tree held holds blank = finmap.same_map path_total path_only
     at [] =
         let h = holds.page [] v.block refl in
         let is : h.0 ≡ page.page = some_is (sym h.1 ∙ here) in
-        h.2 ∙ ap (λ (x : PageValue). Some x.bytes) is ∙ ap (λ b. Some b) blank.bytes ∙ ap (λ b. cond b (Some []) None) (sym (same_self []))
-    at (s ∷ r) = holds.gone (s ∷ r) (sym (named_is (pages_of c) v.block s r page.page here) ∙ names_nothing (pages_of c) 0 page.page.refs s r blank.refs)
+        h.2 ∙ ap (λ (x : PageValue). Some x.bytes) is ∙ ap (λ b. Some b) blank.0 ∙ ap (λ b. cond b (Some []) None) (sym (same_self []))
+    at (s ∷ r) = holds.gone (s ∷ r) (sym (named_is (pages_of c) v.block s r page.page here) ∙ names_nothing (pages_of c) 0 page.page.refs s r blank.1)
 
 -- and where the tree is blank, so is the page
 blank_page : (c : Content) (v : LaidVersion) (page : VersionValue) (tree : Tree) → version_in_block c v.block ≡ Some page → Holds (pages_of c) v.block tree
     → tree ≡ finmap.from_entries blank_entries → IsBlank page.page
 blank_page c v page tree held holds is =
-    record {
-      bytes =
-          let h = holds.page [] v.block refl in
-          let one : h.0 ≡ page.page = some_is (sym h.1 ∙ here) in
-          let bytes : Some page.page.bytes ≡ Some [] = ap (λ (x : PageValue). Some x.bytes) (sym one) ∙ sym h.2 ∙ get [] ∙ ap (λ b. cond b (Some []) None) (same_self []) in
-          some_is bytes;
-      refs = elim (told (list_any (λ (x : ReferenceValue). is_some x.block) page.page.refs)) [ inl t ↦ absurd (used (used_slot page.page.refs t)) | inr f ↦ f ];
-    }
+    let h = holds.page [] v.block refl in
+    let one : h.0 ≡ page.page = some_is (sym h.1 ∙ here) in
+    let bytes : Some page.page.bytes ≡ Some [] = ap (λ (x : PageValue). Some x.bytes) (sym one) ∙ sym h.2 ∙ get [] ∙ ap (λ b. cond b (Some []) None) (same_self []) in
+    let refs : list_any (λ (x : ReferenceValue). is_some x.block) page.page.refs ≡ false =
+    elim (told (list_any (λ (x : ReferenceValue). is_some x.block) page.page.refs)) [ inl t ↦ absurd (used (used_slot page.page.refs t)) | inr f ↦ f ] in
+    (some_is bytes, refs)
   where
     here : pages_of c v.block ≡ Some page.page
     here = page_held c v page held

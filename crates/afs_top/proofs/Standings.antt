@@ -30,8 +30,8 @@ unfoldable pub no_files : ℕ → List File
 no_files n = replicate n (record { generation = 0; secret = zeros 8; versions = [] })
 
 -- two files in sixty entries, and 64 blocks
-abbrev pub new_state : State
-new_state = record { format = 1; blocks = 64; key = 7; files = new_file 1 ∷ new_file 2 ∷ no_files 58 }
+abbrev pub plain_state : State
+plain_state = record { format = 1; blocks = 64; key = 7; files = new_file 1 ∷ new_file 2 ∷ no_files 58 }
 
 -- a client of such a run, with these answers and this update
 abbrev pub client_with : List LineReply → Option Update → ℕ → List What → Client
@@ -43,24 +43,24 @@ update_with steps = record { works = record { object = 1; serial = 1; base = pag
 
 -- what stands after these steps
 abbrev pub stepped_standing : List Step → Standing
-stepped_standing steps = record { state = new_state; clients = client_with (step_answers steps) (Some (update_with steps)) 0 [] ∷ []; made = []; moment = 0 }
+stepped_standing steps = record { state = plain_state; clients = client_with (step_answers steps) (Some (update_with steps)) 0 [] ∷ []; made = []; moment = 0 }
 
 -- what stands when the block of the commit is held
 abbrev pub held_standing : List Step → Standing
-held_standing steps = record { state = new_state; clients = client_with (step_answers steps) (Some (update_with steps)) 1 (Held 1 ∷ []) ∷ []; made = []; moment = 0 }
+held_standing steps = record { state = plain_state; clients = client_with (step_answers steps) (Some (update_with steps)) 1 (Held 1 ∷ []) ∷ []; made = []; moment = 0 }
 
 -- the second version of file 1
 abbrev pub second_of : List Step → Version
 second_of steps = record { serial = 2; tree = tree_after (page_tree []) steps; fresh = [] ∷ [] }
 
 -- the state with the second version
-abbrev pub second_state : List Step → State
-second_state steps = record new_state { files = record (new_file 1) { versions = first_version ∷ second_of steps ∷ [] } ∷ new_file 2 ∷ no_files 58 }
+abbrev pub plain_second : List Step → State
+plain_second steps = record plain_state { files = record (new_file 1) { versions = first_version ∷ second_of steps ∷ [] } ∷ new_file 2 ∷ no_files 58 }
 
 -- what stands at the end, after a commit at this moment
 abbrev pub final_standing : List Step → ℕ → Standing
 final_standing steps at = record {
-  state = if is_written_by steps then second_state steps else new_state;
+  state = if is_written_by steps then plain_second steps else plain_state;
   clients = client_with (whole_answers (is_written_by steps) steps) None 0 [] ∷ [];
   made = if is_written_by steps then record { object = 1; serial = 2; visible = visible_of (page_tree []) steps } ∷ [] else [];
   moment = at;

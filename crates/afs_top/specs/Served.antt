@@ -1,5 +1,5 @@
 -- The store that is served: a new one of two files, 64 blocks and the key 7.
-use Rattle.std.specs.Prelude.{◌≡◌, ℕ, ◌+◌, ◌≤◌, ◌<◌, Bool, true, false, nat_eq, nat_le, MatchBool, List, [], ◌∷◌, length, Option, Some, None, Ok, slice_get, unwrap_or, if◌then◌else◌}
+use Rattle.std.specs.Prelude.{◌≡◌, ◌≢◌, ℕ, ◌+◌, ◌≤◌, ◌<◌, Bool, true, false, nat_eq, nat_le, MatchBool, List, [], ◌∷◌, length, Option, Some, None, Ok, slice_get, unwrap_or, if◌then◌else◌}
 use Rattle.std.specs.List.{list_any}
 use Rattle.std.specs.Option.{is_some}
 use Rattle.std.specs.FinMap as map
@@ -62,10 +62,13 @@ pub record IsNewTable (table : TableValue) (heads : List (Option Head)) : Type 0
   pub count : length table.entries ≡ 60
   pub each : (k : ℕ) (entry : EntryValue) (head : Option Head) → slice_get table.entries k ≡ Some entry → slice_get heads k ≡ Some head → IsNewFile (k + 1) entry head
 
+-- the last version of an object, which counts from 0 here, is in this block
+abbrev pub HasBlock : List (Option Head) → ℕ → ℕ → Type 0
+HasBlock heads k n = (1 ≤ n) × ((head : Head) × (slice_get heads k ≡ Some (Some head)) × (head.block ≡ n))
+
 -- a page without data and without pages below it
-pub record IsBlank (page : PageValue) : Type 0 where
-  pub bytes : page.bytes ≡ []
-  pub refs : list_any (λ (r : ReferenceValue). is_some r.block) page.refs ≡ false
+abbrev pub IsBlank : PageValue → Type 0
+IsBlank page = (page.bytes ≡ []) × (list_any (λ (r : ReferenceValue). is_some r.block) page.refs ≡ false)
 
 -- a block holds the spelling of this version page
 pub record HoldsPage (content : ℕ → Option (List ℕ)) (n : ℕ) (page : VersionValue) : Type 0 where
@@ -91,6 +94,7 @@ pub record IsReady (content : ℕ → Option (List ℕ)) (most base free : ℕ) 
   pub above : 1 ≤ free
   pub below : free < 64
   pub unused : list_any (nat_eq free) places ≡ false
+  pub apart : base ≢ free
 
 -- The same, and block `free` holds the page of the second version with this data, made from the first.
 pub record HasNext (content : ℕ → Option (List ℕ)) (most base free : ℕ) (bytes : List ℕ) : Type 0 where

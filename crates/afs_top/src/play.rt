@@ -1,8 +1,8 @@
 ghost use Rattle.std.specs.Prelude.{◌≡◌, ◌⊎◌, ◌≤◌, ◌<◌, ◌↔◌, [], ◌∷◌, length, List, ℕ, IsTrue, IfSome, IfOk, IfErr, IsErrOf, All, Option, None};
 ghost use Rattle.afs_base.specs.Causes.{Rose};
 ghost use Rattle.drives.specs.declared.device.Half.{Half};
-ghost use Rattle.drives.specs.Changes.{halves_seen};
-ghost use Rattle.endings.specs.Faults.{HalfStopped};
+ghost use Rattle.drives.specs.Changes.{IsAtRest, halves_seen};
+ghost use Rattle.recovery.specs.Opening.{IsFailed};
 ghost use Rattle.endings.specs.Noted.{IsNothingNoted};
 ghost use Rattle.endings.specs.Printing.{Prints};
 ghost use Rattle.endings.specs.Status.{IsDone};
@@ -23,7 +23,7 @@ use crate::served::{Place, Served, Unserved, open_served};
 use crate::stop::Stop;
 use crate::update::run;
 use drives::Drives;
-use endings::{Ended, Status, end_usage};
+use endings::{Ended, Status, empty_journal, end_usage};
 use pair_store::Blocks;
 use script_text::{Sink, Source};
 use std::alloc::Global;
@@ -54,24 +54,24 @@ fn read_steps<S: Source>(alloc: Global, source: &mut S) -> Result<Vec<Step>, Sto
 fn play_opened<B: Blocks, K: Sink>(
     alloc: Global,
     store: &mut B,
-    place: Place,
+    place: &Place,
     steps: &[Step],
     account: &mut Account,
     out: &mut K,
 ) -> Status
-    requires ready { B.tells → IsReady (B.content store.old) (B.size store.old) place.base place.free }
-    requires base { place.base < B.size store.old }
-    requires low { 1 ≤ place.base }
-    requires free { place.free < B.size store.old }
-    requires above { 1 ≤ place.free }
-    requires settled { B.tells → B.settled store.old place.base }
+    requires ready { B.tells → IsReady (B.content store.old) (B.size store.old) place.now.base place.now.free }
+    requires base { place.now.base < B.size store.old }
+    requires low { 1 ≤ place.now.base }
+    requires free { place.now.free < B.size store.old }
+    requires above { 1 ≤ place.now.free }
+    requires settled { B.tells → B.settled store.old place.now.base }
     requires few { length steps.now ≤ 128 }
     requires root { All IsRootStep steps.now }
     requires entries { account.old.journal.entries.items ≡ [] }
     requires replies { account.old.replies.items ≡ [] }
     requires doubt { account.old.journal.doubt ≡ None }
-    ensures ends { (left : Option (List ℕ)) → HasScript left steps.now → EndsAs B.tells (found (B.content store.old) (B.size store.old)) (found (B.content store.new) (B.size store.new))
-        (λ h. HalfStopped B.moment B.faults B.last_fault (B.tells → IsServed (B.content store.old) (B.size store.old) → ⊥) h store.old store.new) left ⊥ (K.written out.old) (K.written out.new) (Rose (K.faults out.old) (K.faults out.new)) account.new.journal result }
+    ensures ends { (left : Option (List ℕ)) → HasScript left steps.now → EndsAs B.tells (Unit {0}) (found (B.content store.old) (B.size store.old)) (found (B.content store.new) (B.size store.new))
+        (λ h. IsFailed (B.faults store.old) (B.faults store.new) (B.last_fault store.new) (B.moment store.new) (B.tells → IsServed (B.content store.old) (B.size store.old) → ⊥) h) left ⊥ (K.written out.old) (K.written out.new) (Rose (K.faults out.old) (K.faults out.new)) account.new.journal result }
     ensures opened { IsBeforeOpening result → ⊥ }
     ensures later { (h : Half) → B.faults store.old h ≤ B.faults store.new h }
     ensures size { B.size store.new ≡ B.size store.old }
@@ -101,13 +101,13 @@ fn play_served<V: Drives, K: Sink>(
     requires entries { account.old.journal.entries.items ≡ [] }
     requires replies { account.old.replies.items ≡ [] }
     requires doubt { account.old.journal.doubt ≡ None }
-    ensures ends { (left : Option (List ℕ)) → HasScript left steps.now → EndsAs V.tells (found (content_of (halves_seen V.seen served.pair.drives)) (V.size served.pair.drives)) (found (content_of (halves_seen V.seen result.drives)) (V.size result.drives))
-        (λ h. HalfStopped V.moment V.faults V.last_fault (V.tells → IsServed (content_of (halves_seen V.seen served.pair.drives)) (V.size served.pair.drives) → ⊥) h served.pair.drives result.drives) left ⊥ (K.written out.old) (K.written out.new) (Rose (K.faults out.old) (K.faults out.new)) account.new.journal result.status }
+    ensures ends { (left : Option (List ℕ)) → HasScript left steps.now → EndsAs V.tells (Unit {0}) (found (content_of (halves_seen V.seen served.pair.drives)) (V.size served.pair.drives)) (found (content_of (halves_seen V.seen result.drives)) (V.size result.drives))
+        (λ h. IsFailed (V.faults served.pair.drives) (V.faults result.drives) (V.last_fault result.drives) (V.moment result.drives) (V.tells → IsServed (content_of (halves_seen V.seen served.pair.drives)) (V.size served.pair.drives) → ⊥) h) left ⊥ (K.written out.old) (K.written out.new) (Rose (K.faults out.old) (K.faults out.new)) account.new.journal result.status }
     ensures opened { IsBeforeOpening result.status → ⊥ }
 {
     let Served { pair, place } = served;
     let mut pair = pair;
-    let status = play_opened(alloc, &mut pair, place, steps, account, out);
+    let status = play_opened(alloc, &mut pair, &place, steps, account, out);
     Played {
         status,
         drives: pair.into_drives(),
@@ -127,8 +127,8 @@ fn play_steps<V: Drives, K: Sink>(
     requires entries { account.old.journal.entries.items ≡ [] }
     requires replies { account.old.replies.items ≡ [] }
     requires doubt { account.old.journal.doubt ≡ None }
-    ensures ends { (left : Option (List ℕ)) → HasScript left steps.now → EndsAs V.tells (found (content_of (halves_seen V.seen drives)) (V.size drives)) (found (content_of (halves_seen V.seen result.drives)) (V.size result.drives))
-        (λ h. HalfStopped V.moment V.faults V.last_fault (V.tells → IsServed (content_of (halves_seen V.seen drives)) (V.size drives) → ⊥) h drives result.drives) left ⊥ (K.written out.old) (K.written out.new) (Rose (K.faults out.old) (K.faults out.new)) account.new.journal result.status }
+    ensures ends { (left : Option (List ℕ)) → HasScript left steps.now → EndsAs V.tells (IsAtRest V.seen V.moment V.may_leave drives) (found (content_of (halves_seen V.seen drives)) (V.size drives)) (found (content_of (halves_seen V.seen result.drives)) (V.size result.drives))
+        (λ h. IsFailed (V.faults drives) (V.faults result.drives) (V.last_fault result.drives) (V.moment result.drives) (V.tells → IsServed (content_of (halves_seen V.seen drives)) (V.size drives) → ⊥) h) left ⊥ (K.written out.old) (K.written out.new) (Rose (K.faults out.old) (K.faults out.new)) account.new.journal result.status }
     ensures opened { IsBeforeOpening result.status → ⊥ }
 {
     match open_served(alloc, drives) {
@@ -154,8 +154,8 @@ fn serve<V: Drives, S: Source, K: Sink>(
     requires entries { account.old.journal.entries.items ≡ [] }
     requires replies { account.old.replies.items ≡ [] }
     requires doubt { account.old.journal.doubt ≡ None }
-    ensures ends { EndsAs V.tells (found (content_of (halves_seen V.seen drives)) (V.size drives)) (found (content_of (halves_seen V.seen result.drives)) (V.size result.drives))
-        (λ h. HalfStopped V.moment V.faults V.last_fault (V.tells → IsServed (content_of (halves_seen V.seen drives)) (V.size drives) → ⊥) h drives result.drives) (S.left source.old) (Rose (S.faults source.old) (S.faults source.new)) (K.written out.old) (K.written out.new) (Rose (K.faults out.old) (K.faults out.new)) account.new.journal result.status }
+    ensures ends { EndsAs V.tells (IsAtRest V.seen V.moment V.may_leave drives) (found (content_of (halves_seen V.seen drives)) (V.size drives)) (found (content_of (halves_seen V.seen result.drives)) (V.size result.drives))
+        (λ h. IsFailed (V.faults drives) (V.faults result.drives) (V.last_fault result.drives) (V.moment result.drives) (V.tells → IsServed (content_of (halves_seen V.seen drives)) (V.size drives) → ⊥) h) (S.left source.old) (Rose (S.faults source.old) (S.faults source.new)) (K.written out.old) (K.written out.new) (Rose (K.faults out.old) (K.faults out.new)) account.new.journal result.status }
     ensures untouched { IsBeforeOpening result.status → result.drives ≡ drives }
 {
     match read_steps(alloc, source) {
@@ -181,11 +181,11 @@ pub fn afs_play<V: Drives, S: Source, K: Sink>(
 ) -> Ended<V>
     requires alone { length scripts.old ≡ 1 }
     requires order { order.now ≡ [] }
-    ensures ends { EndsAs V.tells (found (content_of (halves_seen V.seen drives)) (V.size drives)) (found (content_of (halves_seen V.seen result.drives)) (V.size result.drives))
-        (λ h. HalfStopped V.moment V.faults V.last_fault (V.tells → IsServed (content_of (halves_seen V.seen drives)) (V.size drives) → ⊥) h drives result.drives) (left_of S.left scripts.old) (Rose (faults_of S.faults scripts.old) (faults_of S.faults scripts.new)) (K.written out.old) (K.written out.new) (Rose (K.faults out.old) (K.faults out.new)) result.journal result.status }
+    ensures ends { EndsAs V.tells (IsAtRest V.seen V.moment V.may_leave drives) (found (content_of (halves_seen V.seen drives)) (V.size drives)) (found (content_of (halves_seen V.seen result.drives)) (V.size result.drives))
+        (λ h. IsFailed (V.faults drives) (V.faults result.drives) (V.last_fault result.drives) (V.moment result.drives) (V.tells → IsServed (content_of (halves_seen V.seen drives)) (V.size drives) → ⊥) h) (left_of S.left scripts.old) (Rose (faults_of S.faults scripts.old) (faults_of S.faults scripts.new)) (K.written out.old) (K.written out.new) (Rose (K.faults out.old) (K.faults out.new)) result.journal result.status }
     // Over the store that is served and a script in shape a call ends well where nothing failed, but for want of memory.
     ensures complete { V.tells → NothingFailed (found (content_of (halves_seen V.seen drives)) (V.size drives))
-        (λ h. HalfStopped V.moment V.faults V.last_fault (V.tells → IsServed (content_of (halves_seen V.seen drives)) (V.size drives) → ⊥) h drives result.drives)
+        (λ h. IsFailed (V.faults drives) (V.faults result.drives) (V.last_fault result.drives) (V.moment result.drives) (V.tells → IsServed (content_of (halves_seen V.seen drives)) (V.size drives) → ⊥) h)
         (left_of S.left scripts.old) (Rose (faults_of S.faults scripts.old) (faults_of S.faults scripts.new)) (Rose (K.faults out.old) (K.faults out.new)) → IsDone result.status }
     // Before the halves are looked at, no call of them is made.
     ensures untouched { IsBeforeOpening result.status → result.drives ≡ drives }
@@ -217,8 +217,8 @@ pub fn afs_words<V: Drives, S: Source, K: Sink>(
 ) -> Ended<V>
     ensures usage { IsUsage result.status → IsCommand words.now (length scripts.old) → ⊥ }
     ensures command { (IsCommand words.now (length scripts.old) → ⊥) → IsUsage result.status }
-    ensures play { IsCommand words.now (length scripts.old) → EndsAs V.tells (found (content_of (halves_seen V.seen drives)) (V.size drives)) (found (content_of (halves_seen V.seen result.drives)) (V.size result.drives))
-        (λ h. HalfStopped V.moment V.faults V.last_fault (V.tells → IsServed (content_of (halves_seen V.seen drives)) (V.size drives) → ⊥) h drives result.drives) (left_of S.left scripts.old) (Rose (faults_of S.faults scripts.old) (faults_of S.faults scripts.new)) (K.written out.old) (K.written out.new) (Rose (K.faults out.old) (K.faults out.new)) result.journal result.status }
+    ensures play { IsCommand words.now (length scripts.old) → EndsAs V.tells (IsAtRest V.seen V.moment V.may_leave drives) (found (content_of (halves_seen V.seen drives)) (V.size drives)) (found (content_of (halves_seen V.seen result.drives)) (V.size result.drives))
+        (λ h. IsFailed (V.faults drives) (V.faults result.drives) (V.last_fault result.drives) (V.moment result.drives) (V.tells → IsServed (content_of (halves_seen V.seen drives)) (V.size drives) → ⊥) h) (left_of S.left scripts.old) (Rose (faults_of S.faults scripts.old) (faults_of S.faults scripts.new)) (K.written out.old) (K.written out.new) (Rose (K.faults out.old) (K.faults out.new)) result.journal result.status }
     ensures untouched { IsBeforeOpening result.status → result.drives ≡ drives }
     ensures unused { IsUsage result.status → (scripts.new ≡ scripts.old) × IsNothingNoted result.journal
         × Prints (K.written out.old) (K.written out.new) (Rose (K.faults out.old) (K.faults out.new)) usage_text }
@@ -226,6 +226,11 @@ pub fn afs_words<V: Drives, S: Source, K: Sink>(
     if is_play(words) && scripts.len() == 1 {
         afs_play(alloc, &[], drives, scripts, out)
     } else {
-        Ended::without_journal(alloc, end_usage(out), drives)
+        let status = end_usage(out);
+        Ended {
+            status,
+            drives,
+            journal: empty_journal(alloc),
+        }
     }
 }

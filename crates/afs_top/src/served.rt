@@ -1,25 +1,28 @@
 // Opening: the store is recovered, and has to be the new one that is served.
-ghost use Rattle.std.specs.Prelude.{◌≡◌, ℕ, ◌+◌, ◌<◌, ◌≤◌, Option, Some, length, slice_get, IsTrue, ◌↔◌, IfOk, IfErr, IfSome, IsSome, IsErrOf, MatchOption};
+ghost use Rattle.std.specs.Prelude.{◌≡◌, ◌≢◌, ◌⊎◌, [], ℕ, ◌+◌, ◌<◌, ◌≤◌, Option, None, Some, length, slice_get, IsTrue, ◌↔◌, IfOk, IfErr, IfSome, IsSome, IsErrOf, MatchOption};
+ghost use Rattle.std.specs.List.{list_any};
+ghost use Rattle.std.specs.Option.{is_some};
 ghost use Rattle.block_map.specs.declared.states.BlockState.TheVariants.{Free};
 ghost use Rattle.drives.specs.declared.device.Half.{Half};
-ghost use Rattle.drives.specs.Changes.{halves_seen};
-ghost use Rattle.endings.specs.Faults.{HalfStopped};
+ghost use Rattle.drives.specs.Changes.{IsAtRest, halves_seen};
+ghost use Rattle.recovery.specs.Opening.{IsFailed, IsOpened};
 ghost use Rattle.pair_store.specs.Blocks.{SameContents};
 ghost use Rattle.pair_store.specs.Content.{IsSettled, content_of};
-ghost use Rattle.page_codec.specs.Values.{EntryValue, VersionValue};
-ghost use Rattle.recovery.specs.Opening.{IsOpened};
+ghost use Rattle.page_codec.specs.NewStore.{secret_of};
+ghost use Rattle.page_codec.specs.Numbers.{zeros};
+ghost use Rattle.page_codec.specs.Values.{EntryValue, ReferenceValue, VersionValue};
 ghost use Rattle.store_model.specs.Changes.{version_in_block};
 ghost use Rattle.store_model.specs.Found.{found};
 ghost use Rattle.version_chain.specs.declared.head.Head.{Head};
-ghost use Rattle.afs_top.specs.Opening.{IsUnserved, served_drives};
-ghost use Rattle.afs_top.specs.Served.{HoldsPage, IsBlank, IsNewFile, IsNewTable, IsReady, IsServed};
+ghost use Rattle.afs_top.specs.Opening.{IsUnserved, IsUntorn, served_drives};
+ghost use Rattle.afs_top.specs.Served.{HasBlock, HoldsPage, IsBlank, IsNewFile, IsNewTable, IsReady, IsServed};
 ghost use Rattle.afs_top.specs.Stop.{IsHalt};
 
 use crate::stop::{Stop, fault_stop, refused_stop};
 use afs_base::BlockNo;
 use block_map::{BlockMap, BlockState};
 use drives::Drives;
-use page_codec::{Page, Table, TableEntry, decode_version, secret_of};
+use page_codec::{Page, Reference, Table, TableEntry, decode_version, secret_of};
 use pair_store::{Blocks, Pair};
 use recovery::Opened;
 use std::alloc::Global;
@@ -70,23 +73,39 @@ fn is_secret(entry: &TableEntry, secret: &[u8; 8]) -> bool
     entry.secret == *secret
 }
 
+/// Whether a live object of the new store has this entry and this head.
+fn is_live_file(object: u32, entry: &TableEntry, head: &Head) -> bool
+    ensures { IsTrue result ↔ ((entry.now.generation ≡ 1) × ((entry.now.secret ≡ secret_of 7 object 1) × ((head.now.first ≡ 1) × (head.now.serial ≡ 1) × (head.now.kept ≡ 1)))) }
+{
+    (entry.generation == 1) & (is_secret(entry, &secret_of(KEY, object, 1)) & is_first(head))
+}
+
+/// Whether this is the entry and the head of an object that never was live.
+#[tactic(auto, unfolding(page_codec::specs::Numbers::zeros))]
+fn is_no_file(entry: &TableEntry, head: &Option<Head>) -> bool
+    ensures { IsTrue result ↔ ((entry.now.generation ≡ 0) × ((entry.now.secret ≡ zeros 8) × (head.now ≡ None))) }
+{
+    (entry.generation == 0) & (is_secret(entry, &[0; 8]) & head.is_none())
+}
+
 /// Whether an object of the new store has this entry and this head.
 fn is_new_file(object: u32, entry: &TableEntry, head: &Option<Head>) -> bool
     ensures { IsTrue result ↔ IsNewFile object entry.now head.now }
 {
     if object <= FILES {
         match head {
-            Some(head) => entry.generation == 1 && is_secret(entry, &secret_of(KEY, object, 1)) && is_first(head),
+            Some(head) => is_live_file(object, entry, head),
             None => false,
         }
     } else {
-        entry.generation == 0 && is_secret(entry, &[0; 8]) && head.is_none()
+        is_no_file(entry, head)
     }
 }
 
 /// Whether all objects have entries and heads of the new store.
 fn are_new_files(entries: &[TableEntry], heads: &[Option<Head>]) -> bool
-    requires { length heads.now ≡ length entries.now }
+    requires entries { length entries.now ≡ 60 }
+    requires heads { length heads.now ≡ 60 }
     ensures { IsTrue result ↔ ((k : ℕ) (entry : EntryValue) (head : Option Head) → slice_get entries.now k ≡ Some entry → slice_get heads.now k ≡ Some head → IsNewFile (k + 1) entry head) }
 {
     let mut object = 1u32;
@@ -112,17 +131,30 @@ fn is_new_table(table: &Table, heads: &[Option<Head>]) -> bool
         && are_new_files(entries, heads)
 }
 
+/// Whether a page has no data.
+fn has_no_data(page: &Page) -> bool
+    ensures { IsTrue result ↔ (page.now.bytes ≡ []) }
+{
+    page.bytes.bytes().is_empty()
+}
+
+/// Whether a slot names a page.
+fn is_any_used(refs: &[Reference]) -> bool
+    ensures { result ≡ list_any (λ (r : ReferenceValue). is_some r.block) refs.now }
+{
+    refs.iter().any(|r| r.block.is_some())
+}
+
 /// Whether a page has no data and no pages below it.
 fn is_blank(page: &Page) -> bool
     ensures { IsTrue result ↔ IsBlank page.now }
 {
-    page.bytes.bytes().is_empty() & !page.refs.iter().any(|r| r.block.is_some())
+    has_no_data(page) & !is_any_used(&page.refs)
 }
 
 /// The block of the last version of an object, which counts from 0 here, where it is live.
 fn head_block(heads: &[Option<Head>], k: usize) -> Option<BlockNo>
-    ensures { MatchOption result ((head : Head) → slice_get heads.now k ≡ Some (Some head) → 1 ≤ head.block → ⊥)
-        (λ n. (1 ≤ n) × ((head : Head) × (slice_get heads.now k ≡ Some (Some head)) × (head.block ≡ n))) }
+    ensures { MatchOption result ((n : ℕ) → HasBlock heads.now k n → ⊥) (λ n. HasBlock heads.now k n) }
 {
     match heads.get(k) {
         Some(Some(head)) if head.block.get() > 0 => Some(head.block),
@@ -130,15 +162,35 @@ fn head_block(heads: &[Option<Head>], k: usize) -> Option<BlockNo>
     }
 }
 
-/// A block that is not in use, if there is one.
-fn free_block(map: &BlockMap) -> Option<BlockNo>
-    ensures { IfSome result (λ n. (1 ≤ n) × (n < length map.now) × (slice_get map.now n ≡ Some Free)) }
+/// The blocks of the last versions of objects 1 and 2.
+#[derive(Clone, Copy, Debug)]
+struct HeadBlocks {
+    first: BlockNo,
+    second: BlockNo,
+}
+
+/// The blocks of the last versions of objects 1 and 2, where both are live.
+fn head_blocks(heads: &[Option<Head>]) -> Option<HeadBlocks>
+    ensures { MatchOption result ((m n : ℕ) → HasBlock heads.now 0 m → HasBlock heads.now 1 n → ⊥) (λ blocks. HasBlock heads.now 0 blocks.first × HasBlock heads.now 1 blocks.second) }
+{
+    match head_block(heads, 0) {
+        Some(first) => match head_block(heads, 1) {
+            Some(second) => Some(HeadBlocks { first, second }),
+            None => None,
+        },
+        None => None,
+    }
+}
+
+/// A block that is not in use, and not this one, if there is one.
+fn free_block(map: &BlockMap, base: BlockNo) -> Option<BlockNo>
+    ensures { IfSome result (λ n. (1 ≤ n) × ((n < length map.now) × ((slice_get map.now n ≡ Some Free) × (base ≢ n)))) }
 {
     for n in 1..map.free() + 1 {
         let block = block_no(n);
         match map.state(block) {
-            BlockState::Free => return Some(block),
-            BlockState::Kept | BlockState::Held(_) => {}
+            BlockState::Free if n != base.get() => return Some(block),
+            BlockState::Free | BlockState::Kept | BlockState::Held(_) => {}
         }
     }
     None
@@ -163,7 +215,7 @@ fn reads_blank<B: Blocks>(store: &mut B, n: BlockNo) -> Result<bool, Stop>
     ensures value { B.tells → IfOk result (λ blank. (page : VersionValue) × HoldsPage (B.content store.old) n page × (IsTrue blank ↔ IsBlank page.page)) }
     ensures same { B.tells → SameContents (B.content store.old) (B.content store.new) }
     ensures kept { B.tells → (k : ℕ) → B.settled store.old k → B.settled store.new k }
-    ensures stopped { (h : Half) → IsErrOf result (Stop.Drive h) → HalfStopped B.moment B.faults B.last_fault (B.tells → ⊥) h store.old store.new }
+    ensures stopped { (h : Half) → IsErrOf result (Stop.Drive h) → IsFailed (B.faults store.old) (B.faults store.new) (B.last_fault store.new) (B.moment store.new) (B.tells → ⊥) h }
     ensures changed { IsErrOf result Stop.Store → B.tells → ⊥ }
     ensures only { IfErr result IsHalt }
     ensures later { (h : Half) → B.faults store.old h ≤ B.faults store.new h }
@@ -189,7 +241,7 @@ fn both_blank<B: Blocks>(store: &mut B, first: BlockNo, second: BlockNo) -> Resu
         × (IsTrue blank ↔ (IsBlank one.page × IsBlank two.page))) }
     ensures same { B.tells → SameContents (B.content store.old) (B.content store.new) }
     ensures kept { B.tells → (k : ℕ) → B.settled store.old k → B.settled store.new k }
-    ensures stopped { (h : Half) → IsErrOf result (Stop.Drive h) → HalfStopped B.moment B.faults B.last_fault (B.tells → ⊥) h store.old store.new }
+    ensures stopped { (h : Half) → IsErrOf result (Stop.Drive h) → IsFailed (B.faults store.old) (B.faults store.new) (B.last_fault store.new) (B.moment store.new) (B.tells → ⊥) h }
     ensures changed { IsErrOf result Stop.Store → B.tells → ⊥ }
     ensures only { IfErr result IsHalt }
     ensures later { (h : Half) → B.faults store.old h ≤ B.faults store.new h }
@@ -217,7 +269,7 @@ fn find_place<B: Blocks>(
     ensures settles { B.tells → IfOk result (λ p. B.settled store.new p.base) }
     ensures unserved { B.tells → IsErrOf result Stop.Store → IsServed (B.content store.old) (B.size store.old) → ⊥ }
     ensures same { B.tells → SameContents (B.content store.old) (B.content store.new) }
-    ensures stopped { (h : Half) → IsErrOf result (Stop.Drive h) → HalfStopped B.moment B.faults B.last_fault (B.tells → ⊥) h store.old store.new }
+    ensures stopped { (h : Half) → IsErrOf result (Stop.Drive h) → IsFailed (B.faults store.old) (B.faults store.new) (B.last_fault store.new) (B.moment store.new) (B.tells → ⊥) h }
     ensures only { IfErr result IsHalt }
     ensures later { (h : Half) → B.faults store.old h ≤ B.faults store.new h }
     ensures size { B.size store.new ≡ B.size store.old }
@@ -225,17 +277,20 @@ fn find_place<B: Blocks>(
     if !is_new_table(table, heads) {
         return Err(Stop::Store);
     }
-    match (head_block(heads, 0), head_block(heads, 1)) {
-        (Some(base), Some(other)) => {
-            if !both_blank(store, base, other)? {
+    match head_blocks(heads) {
+        Some(blocks) => {
+            if !both_blank(store, blocks.first, blocks.second)? {
                 return Err(Stop::Store);
             }
-            match free_block(map) {
-                Some(free) => Ok(Place { base, free }),
+            match free_block(map, blocks.first) {
+                Some(free) => Ok(Place {
+                    base: blocks.first,
+                    free,
+                }),
                 None => Err(Stop::Memory),
             }
         }
-        _ => Err(Stop::Store),
+        None => Err(Stop::Store),
     }
 }
 
@@ -251,7 +306,7 @@ fn serve_opened<V: Drives>(opened: Opened<V>) -> Result<Served<V>, Unserved<V>>
     ensures bounds { IfOk result (λ s. (1 ≤ s.place.base) × (s.place.base < V.size s.pair.drives) × (1 ≤ s.place.free) × (s.place.free < V.size s.pair.drives)) }
     ensures settles { V.tells → IfOk result (λ s. IsSettled s.place.base (halves_seen V.seen s.pair.drives)) }
     ensures unserved { IfErr result (λ e. IsUnserved V.tells (found (content_of (halves_seen V.seen opened.pair.drives)) (V.size opened.pair.drives)) e.stop) }
-    ensures stopped { (h : Half) → IfErr result (λ e. e.stop ≡ Stop.Drive h → HalfStopped V.moment V.faults V.last_fault (V.tells → ⊥) h opened.pair.drives e.drives) }
+    ensures stopped { (h : Half) → IfErr result (λ e. e.stop ≡ Stop.Drive h → IsFailed (V.faults opened.pair.drives) (V.faults e.drives) (V.last_fault e.drives) (V.moment e.drives) (V.tells → ⊥) h) }
     ensures later { (h : Half) → V.faults opened.pair.drives h ≤ V.faults (served_drives result) h }
     ensures size { V.size (served_drives result) ≡ V.size opened.pair.drives }
 {
@@ -274,12 +329,14 @@ fn serve_opened<V: Drives>(opened: Opened<V>) -> Result<Served<V>, Unserved<V>>
 
 /// Opens the halves, which have to hold the new store that is served.
 pub(crate) fn open_served<V: Drives>(alloc: Global, drives: V) -> Result<Served<V>, Unserved<V>>
-    ensures same { V.tells → found (content_of (halves_seen V.seen (served_drives result))) (V.size (served_drives result)) ≡ found (content_of (halves_seen V.seen drives)) (V.size drives) }
+    // Where something is pending as the call begins, a half that fails in a write leaves the question open.
+    ensures same { V.tells → IsAtRest V.seen V.moment V.may_leave drives ⊎ IsUntorn result
+        → found (content_of (halves_seen V.seen (served_drives result))) (V.size (served_drives result)) ≡ found (content_of (halves_seen V.seen drives)) (V.size drives) }
     ensures ready { V.tells → IfOk result (λ s. IsReady (content_of (halves_seen V.seen s.pair.drives)) (V.size s.pair.drives) s.place.base s.place.free) }
     ensures bounds { IfOk result (λ s. (1 ≤ s.place.base) × (s.place.base < V.size s.pair.drives) × (1 ≤ s.place.free) × (s.place.free < V.size s.pair.drives)) }
     ensures settles { V.tells → IfOk result (λ s. IsSettled s.place.base (halves_seen V.seen s.pair.drives)) }
     ensures unserved { IfErr result (λ e. IsUnserved V.tells (found (content_of (halves_seen V.seen drives)) (V.size drives)) e.stop) }
-    ensures stopped { (h : Half) → IfErr result (λ e. e.stop ≡ Stop.Drive h → HalfStopped V.moment V.faults V.last_fault (V.tells → IsServed (content_of (halves_seen V.seen drives)) (V.size drives) → ⊥) h drives e.drives) }
+    ensures stopped { (h : Half) → IfErr result (λ e. e.stop ≡ Stop.Drive h → IsFailed (V.faults drives) (V.faults e.drives) (V.last_fault e.drives) (V.moment e.drives) (V.tells → IsServed (content_of (halves_seen V.seen drives)) (V.size drives) → ⊥) h) }
     ensures later { (h : Half) → V.faults drives h ≤ V.faults (served_drives result) h }
     ensures size { V.size (served_drives result) ≡ V.size drives }
 {

@@ -2,7 +2,7 @@ ghost use Rattle.std.specs.Prelude.{◌≡◌, ◌+◌, ◌<◌, ◌≤◌, ◌+
 ghost use Rattle.drives.specs.declared.device.Half.{Half};
 ghost use Rattle.afs_top.specs.Course.{begun_entries, stepped_entries, held_entries, whole_entries, whole_answers, step_answers, is_written_by, entry, named, last_entries, last_serial, nothing_entries, commit_entries, IsCut, IsFront, IsPart};
 ghost use Rattle.afs_top.specs.Cut.{IsCutOff};
-ghost use Rattle.endings.specs.Faults.{HalfStopped};
+ghost use Rattle.recovery.specs.Opening.{IsFailed};
 ghost use Rattle.store_model.specs.Found.{found};
 ghost use Rattle.afs_top.specs.Script.{IsRootStep};
 ghost use Rattle.afs_top.specs.Served.{HasNext, IsReady, committed_state, root_data, second_state};
@@ -122,20 +122,20 @@ fn doubt_commit(line: u32, at: u64, account: &mut Account)
 }
 
 /// Writes the page of the second version into the free block, which changes no file that is found.
-fn write_page<B: Blocks>(store: &mut B, place: Place, draft: &Draft) -> Result<(), Stop>
+fn write_page<B: Blocks>(store: &mut B, place: &Place, draft: &Draft) -> Result<(), Stop>
     requires copied { draft.now.flags.copied ≡ true }
-    requires ready { B.tells → IsReady (B.content store.old) (B.size store.old) place.base place.free }
-    requires base { place.base < B.size store.old }
-    requires low { 1 ≤ place.base }
-    requires free { place.free < B.size store.old }
-    requires above { 1 ≤ place.free }
-    requires settled { B.tells → B.settled store.old place.base }
-    ensures next { B.tells → OnOk result (HasNext (B.content store.new) (B.size store.new) place.base place.free (root_data draft.now.tree)) }
-    ensures settles { B.tells → OnOk result (B.settled store.new place.base) }
+    requires ready { B.tells → IsReady (B.content store.old) (B.size store.old) place.now.base place.now.free }
+    requires base { place.now.base < B.size store.old }
+    requires low { 1 ≤ place.now.base }
+    requires free { place.now.free < B.size store.old }
+    requires above { 1 ≤ place.now.free }
+    requires settled { B.tells → B.settled store.old place.now.base }
+    ensures next { B.tells → OnOk result (HasNext (B.content store.new) (B.size store.new) place.now.base place.now.free (root_data draft.now.tree)) }
+    ensures settles { B.tells → OnOk result (B.settled store.new place.now.base) }
     ensures found { B.tells → (found (B.content store.new) (B.size store.new)) ≡ (found (B.content store.old) (B.size store.old)) }
     ensures size { B.size store.new ≡ B.size store.old }
     ensures later { (h : Half) → B.faults store.old h ≤ B.faults store.new h }
-    ensures stopped { (h : Half) → IsErrOf result (Stop.Drive h) → HalfStopped B.moment B.faults B.last_fault (B.tells → ⊥) h store.old store.new }
+    ensures stopped { (h : Half) → IsErrOf result (Stop.Drive h) → IsFailed (B.faults store.old) (B.faults store.new) (B.last_fault store.new) (B.moment store.new) (B.tells → ⊥) h }
     ensures only { IfErr result (λ e. (h : Half) × (e ≡ Stop.Drive h)) }
 {
     match store.write(place.free, &second_block(place.base, draft)) {
@@ -148,17 +148,17 @@ fn write_page<B: Blocks>(store: &mut B, place: Place, draft: &Draft) -> Result<(
 /// Where the write fails, the commit is in doubt.
 fn set_link<B: Blocks>(
     store: &mut B,
-    place: Place,
+    place: &Place,
     line: u32,
     account: &mut Account,
 ) -> Result<(), Stop>
-    requires next { B.tells → (bytes : List ℕ) × HasNext (B.content store.old) (B.size store.old) place.base place.free bytes }
-    requires base { place.base < B.size store.old }
-    requires low { 1 ≤ place.base }
-    requires free { place.free < B.size store.old }
-    requires above { 1 ≤ place.free }
-    requires settled { B.tells → B.settled store.old place.base }
-    ensures linked { B.tells → (bytes : List ℕ) → HasNext (B.content store.old) (B.size store.old) place.base place.free bytes → OnOk result ((found (B.content store.new) (B.size store.new)) ≡ Ok (second_state bytes)) }
+    requires next { B.tells → (bytes : List ℕ) × HasNext (B.content store.old) (B.size store.old) place.now.base place.now.free bytes }
+    requires base { place.now.base < B.size store.old }
+    requires low { 1 ≤ place.now.base }
+    requires free { place.now.free < B.size store.old }
+    requires above { 1 ≤ place.now.free }
+    requires settled { B.tells → B.settled store.old place.now.base }
+    ensures linked { B.tells → (bytes : List ℕ) → HasNext (B.content store.old) (B.size store.old) place.now.base place.now.free bytes → OnOk result ((found (B.content store.new) (B.size store.new)) ≡ Ok (second_state bytes)) }
     ensures entries { account.new.journal.entries.items ≡ account.old.journal.entries.items }
     ensures replies { account.new.replies ≡ account.old.replies }
     ensures sure { OnOk result (account.new.journal.doubt ≡ account.old.journal.doubt) }
@@ -166,7 +166,7 @@ fn set_link<B: Blocks>(
     ensures changed { IsErrOf result Stop.Store → (B.tells → ⊥) × (account.new.journal.doubt ≡ account.old.journal.doubt) }
     ensures size { B.size store.new ≡ B.size store.old }
     ensures later { (h : Half) → B.faults store.old h ≤ B.faults store.new h }
-    ensures stopped { (h : Half) → IsErrOf result (Stop.Drive h) → HalfStopped B.moment B.faults B.last_fault (B.tells → ⊥) h store.old store.new }
+    ensures stopped { (h : Half) → IsErrOf result (Stop.Drive h) → IsFailed (B.faults store.old) (B.faults store.new) (B.last_fault store.new) (B.moment store.new) (B.tells → ⊥) h }
     ensures only { IfErr result IsFault }
 {
     match store.test_and_set(place.base, place.free) {
@@ -176,25 +176,27 @@ fn set_link<B: Blocks>(
             doubt_commit(line, store.now(), account);
             Err(Stop::Drive(half))
         }
-        Err(fault) => Err(fault_stop(fault)),
+        Err(PairFault::ReadFault { half }) => Err(Stop::Drive(half)),
+        Err(PairFault::BothClosed { .. }) => Err(Stop::Store),
+        Err(PairFault::BadPage { .. }) => Err(Stop::Store),
     }
 }
 
 /// Writes the page of the second version, and only then links it to the first. Where the link fails, it is in doubt.
 fn link<B: Blocks>(
     store: &mut B,
-    place: Place,
+    place: &Place,
     draft: &Draft,
     line: u32,
     account: &mut Account,
 ) -> Result<(), Stop>
     requires copied { draft.now.flags.copied ≡ true }
-    requires ready { B.tells → IsReady (B.content store.old) (B.size store.old) place.base place.free }
-    requires base { place.base < B.size store.old }
-    requires low { 1 ≤ place.base }
-    requires free { place.free < B.size store.old }
-    requires above { 1 ≤ place.free }
-    requires settled { B.tells → B.settled store.old place.base }
+    requires ready { B.tells → IsReady (B.content store.old) (B.size store.old) place.now.base place.now.free }
+    requires base { place.now.base < B.size store.old }
+    requires low { 1 ≤ place.now.base }
+    requires free { place.now.free < B.size store.old }
+    requires above { 1 ≤ place.now.free }
+    requires settled { B.tells → B.settled store.old place.now.base }
     ensures linked { B.tells → OnOk result ((found (B.content store.new) (B.size store.new)) ≡ Ok (second_state (root_data draft.now.tree))) }
     ensures entries { account.new.journal.entries.items ≡ account.old.journal.entries.items }
     ensures replies { account.new.replies ≡ account.old.replies }
@@ -203,7 +205,7 @@ fn link<B: Blocks>(
     ensures changed { IsErrOf result Stop.Store → (B.tells → ⊥) × (account.new.journal.doubt ≡ account.old.journal.doubt) }
     ensures size { B.size store.new ≡ B.size store.old }
     ensures later { (h : Half) → B.faults store.old h ≤ B.faults store.new h }
-    ensures stopped { (h : Half) → IsErrOf result (Stop.Drive h) → HalfStopped B.moment B.faults B.last_fault (B.tells → ⊥) h store.old store.new }
+    ensures stopped { (h : Half) → IsErrOf result (Stop.Drive h) → IsFailed (B.faults store.old) (B.faults store.new) (B.last_fault store.new) (B.moment store.new) (B.tells → ⊥) h }
     ensures only { IfErr result IsFault }
 {
     write_page(store, place, draft)?;
@@ -213,22 +215,22 @@ fn link<B: Blocks>(
 /// Commits what was written as the second version of file 1.
 fn commit_page<B: Blocks>(
     store: &mut B,
-    place: Place,
+    place: &Place,
     draft: &Draft,
     line: u32,
     account: &mut Account,
 ) -> Result<(), Stop>
     requires copied { draft.now.flags.copied ≡ true }
-    requires ready { B.tells → IsReady (B.content store.old) (B.size store.old) place.base place.free }
-    requires base { place.base < B.size store.old }
-    requires low { 1 ≤ place.base }
-    requires free { place.free < B.size store.old }
-    requires above { 1 ≤ place.free }
-    requires settled { B.tells → B.settled store.old place.base }
+    requires ready { B.tells → IsReady (B.content store.old) (B.size store.old) place.now.base place.now.free }
+    requires base { place.now.base < B.size store.old }
+    requires low { 1 ≤ place.now.base }
+    requires free { place.now.free < B.size store.old }
+    requires above { 1 ≤ place.now.free }
+    requires settled { B.tells → B.settled store.old place.now.base }
     ensures linked { B.tells → OnOk result ((found (B.content store.new) (B.size store.new)) ≡ Ok (second_state (root_data draft.now.tree))) }
     ensures size { B.size store.new ≡ B.size store.old }
     ensures later { (h : Half) → B.faults store.old h ≤ B.faults store.new h }
-    ensures stopped { (h : Half) → IsErrOf result (Stop.Drive h) → HalfStopped B.moment B.faults B.last_fault (B.tells → ⊥) h store.old store.new }
+    ensures stopped { (h : Half) → IsErrOf result (Stop.Drive h) → IsFailed (B.faults store.old) (B.faults store.new) (B.last_fault store.new) (B.moment store.new) (B.tells → ⊥) h }
     ensures only { IfErr result IsHalt }
     ensures entries { OnOk result (account.new.journal.entries.items ≡ account.old.journal.entries.items ++ entry line (Held 1) ∷ [] ++ commit_entries line (B.moment store.new)) }
     ensures replies { OnOk result (account.new.replies.items ≡ account.old.replies.items ++ Committed (2 ∷ []) ∷ []) }
@@ -249,22 +251,22 @@ fn commit_page<B: Blocks>(
 /// Says whether one was.
 fn commit<B: Blocks>(
     store: &mut B,
-    place: Place,
+    place: &Place,
     draft: &Draft,
     line: u32,
     account: &mut Account,
 ) -> Result<bool, Stop>
-    requires ready { B.tells → IsReady (B.content store.old) (B.size store.old) place.base place.free }
-    requires base { place.base < B.size store.old }
-    requires low { 1 ≤ place.base }
-    requires free { place.free < B.size store.old }
-    requires above { 1 ≤ place.free }
-    requires settled { B.tells → B.settled store.old place.base }
+    requires ready { B.tells → IsReady (B.content store.old) (B.size store.old) place.now.base place.now.free }
+    requires base { place.now.base < B.size store.old }
+    requires low { 1 ≤ place.now.base }
+    requires free { place.now.free < B.size store.old }
+    requires above { 1 ≤ place.now.free }
+    requires settled { B.tells → B.settled store.old place.now.base }
     ensures written { IfOk result (λ written. written ≡ draft.now.flags.written) }
     ensures linked { B.tells → OnOk result ((found (B.content store.new) (B.size store.new)) ≡ Ok (committed_state draft.now.flags.written draft.now.tree)) }
     ensures size { B.size store.new ≡ B.size store.old }
     ensures later { (h : Half) → B.faults store.old h ≤ B.faults store.new h }
-    ensures stopped { (h : Half) → IsErrOf result (Stop.Drive h) → HalfStopped B.moment B.faults B.last_fault (B.tells → ⊥) h store.old store.new }
+    ensures stopped { (h : Half) → IsErrOf result (Stop.Drive h) → IsFailed (B.faults store.old) (B.faults store.new) (B.last_fault store.new) (B.moment store.new) (B.tells → ⊥) h }
     ensures only { IfErr result IsHalt }
     ensures entries { OnOk result (account.new.journal.entries.items ≡ account.old.journal.entries.items ++ last_entries draft.now.flags.written line (B.moment store.new)) }
     ensures replies { OnOk result (account.new.replies.items ≡ account.old.replies.items ++ Committed (last_serial draft.now.flags.written ∷ []) ∷ []) }
@@ -294,16 +296,16 @@ fn commit<B: Blocks>(
 pub(crate) fn run<B: Blocks>(
     alloc: Global,
     store: &mut B,
-    place: Place,
+    place: &Place,
     steps: &[Step],
     account: &mut Account,
 ) -> Result<bool, Stop>
-    requires ready { B.tells → IsReady (B.content store.old) (B.size store.old) place.base place.free }
-    requires base { place.base < B.size store.old }
-    requires low { 1 ≤ place.base }
-    requires free { place.free < B.size store.old }
-    requires above { 1 ≤ place.free }
-    requires settled { B.tells → B.settled store.old place.base }
+    requires ready { B.tells → IsReady (B.content store.old) (B.size store.old) place.now.base place.now.free }
+    requires base { place.now.base < B.size store.old }
+    requires low { 1 ≤ place.now.base }
+    requires free { place.now.free < B.size store.old }
+    requires above { 1 ≤ place.now.free }
+    requires settled { B.tells → B.settled store.old place.now.base }
     requires few { length steps.now ≤ 128 }
     requires root { All IsRootStep steps.now }
     requires entries { account.old.journal.entries.items ≡ [] }
@@ -313,7 +315,7 @@ pub(crate) fn run<B: Blocks>(
     ensures linked { B.tells → OnOk result ((found (B.content store.new) (B.size store.new)) ≡ Ok (committed_state (is_written_by steps.now) (tree_after single steps.now))) }
     ensures size { B.size store.new ≡ B.size store.old }
     ensures later { (h : Half) → B.faults store.old h ≤ B.faults store.new h }
-    ensures stopped { (h : Half) → IsErrOf result (Stop.Drive h) → HalfStopped B.moment B.faults B.last_fault (B.tells → ⊥) h store.old store.new }
+    ensures stopped { (h : Half) → IsErrOf result (Stop.Drive h) → IsFailed (B.faults store.old) (B.faults store.new) (B.last_fault store.new) (B.moment store.new) (B.tells → ⊥) h }
     ensures only { IfErr result IsHalt }
     ensures entries { OnOk result (account.new.journal.entries.items ≡ whole_entries (is_written_by steps.now) (length steps.now) (B.moment store.new)) }
     ensures replies { OnOk result (account.new.replies.items ≡ whole_answers (is_written_by steps.now) steps.now) }
