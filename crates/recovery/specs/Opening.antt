@@ -1,5 +1,5 @@
 -- What an opening does, and what it answers: no file that is found changes, and the links that a commit left outstanding are set.
-use Rattle.std.specs.Prelude.{◌≡◌, ◌⊎◌, ℕ, ◌+◌, ◌-◌, ◌^◌, min, true, List, length, map, Option, Some, option_map, Result, Ok, Err, slice_get}
+use Rattle.std.specs.Prelude.{◌≡◌, ◌⊎◌, ℕ, ◌+◌, ◌-◌, ◌^◌, min, true, List, [], length, map, Option, Some, option_map, Result, Ok, Err, slice_get}
 use Rattle.drives.specs.declared.device.Half.{Half}
 use Rattle.drives.specs.Faults.{HasFailed}
 use Rattle.tree_model.specs.States.{State}
@@ -14,12 +14,30 @@ use Rattle.store_model.specs.Found.{LaidStore, laid, found}
 use Rattle.store_check.specs.Checked.{LikeTable}
 use Rattle.store_check.specs.Files.{first_serial, kept_by}
 use Rattle.store_check.specs.Marks.{Marks}
+use Rattle.page_codec.specs.declared.why.Why.TheVariants.{Closed}
+use Rattle.pair_store.specs.declared.on_halves.Pair.{Pair}
+use Rattle.pair_store.specs.declared.fault.PairFault.{PairFault}
+use Rattle.pair_store.specs.declared.fault.PairFault.TheVariants.{ReadFault as Unread, WriteFault as Unwritten, BothClosed, BadPage}
+use Rattle.store_check.specs.declared.refused.CheckRefused.{CheckRefused}
+use Rattle.store_check.specs.declared.refused.CheckRefused.TheVariants.{ReadFault as Unchecked, BadStore as BadCheck, Memory as NoMemory}
 use Rattle.recovery.specs.declared.opened.Opened.{Opened}
 use Rattle.recovery.specs.declared.opened.OpenedOver.{OpenedOver}
 use Rattle.recovery.specs.declared.opened.Unopened.{Unopened}
 use Rattle.recovery.specs.declared.opened.UnopenedOver.{UnopenedOver}
 use Rattle.recovery.specs.declared.refused.OpenRefused.{OpenRefused}
 use Rattle.recovery.specs.declared.refused.OpenRefused.TheVariants.{ReadFault, WriteFault, BadStore, Memory}
+
+-- why a store is not opened, where the check refused it, and where a call on a block did
+abbrev pub refused_check : CheckRefused → OpenRefused
+refused_check (Unchecked half) = ReadFault half
+refused_check (BadCheck block why) = BadStore block why
+refused_check NoMemory = Memory
+
+abbrev pub refused_call : PairFault → OpenRefused
+refused_call (Unread half) = ReadFault half
+refused_call (Unwritten half) = WriteFault half
+refused_call (BothClosed block) = BadStore block Closed
+refused_call (BadPage block why) = BadStore block why
 
 -- the drives that come back
 abbrev pub drives_of : {V : Type 0} → Result (Opened V) (Unopened V) → V
@@ -30,6 +48,11 @@ drives_of (Err e) = e.drives
 abbrev pub store_of : {B : Type 0} → Result (OpenedOver B) (UnopenedOver B) → B
 store_of (Ok o) = o.store
 store_of (Err e) = e.store
+
+-- the same of two halves, which give their drives back, opened at this moment
+abbrev pub pair_result : {V : Type 0} → Result (OpenedOver (Pair V)) (UnopenedOver (Pair V)) → ℕ → Result (Opened V) (Unopened V)
+pair_result (Ok o) since = Ok (record { pair = o.store; table = o.table; map = o.map; heads = o.heads; since = since })
+pair_result (Err e) since = Err (record { drives = e.store.drives; why = e.why })
 
 -- no half failed in a write
 abbrev pub NoWriteFailed : OpenRefused → Type 0
@@ -66,14 +89,14 @@ IsRolled store =
     → IsLinked file × ((version : LaidVersion) → last_laid file.versions ≡ Some version → names_none version ≡ true)
 
 -- A store was opened: these contents stand for it, and its table, the map of its blocks and its heads are these.
-pub record IsOpened (content : ℕ → Option (List ℕ)) (most : ℕ) (table : TableValue) (states : List BlockState) (heads : List (Option Head)) : Type 0 where
+pub record IsOpened (content : ℕ → Option (List ℕ)) (most : ℕ) (kept : TableValue) (states : List BlockState) (told : List (Option Head)) : Type 0 where
   pub store : LaidStore
   pub places : List ℕ
   pub laid : laid content most [] ≡ Ok (store, places)
-  pub table : LikeTable table store
+  pub table : LikeTable kept store
   pub size : length states ≡ store.root.blocks
   pub marks : Marks places states
-  pub heads : heads ≡ heads_of store.files
+  pub heads : told ≡ heads_of store.files
   pub rolled : IsRolled store
 
 -- a bad store is none that is found: this is its first cause, and its block

@@ -3,17 +3,68 @@ ghost use Rattle.std.specs.Prelude.{◌≡◌, ℕ, ◌<◌, ◌≤◌, List, Op
 ghost use Rattle.drives.specs.declared.device.Half.{Half};
 ghost use Rattle.drives.specs.Changes.{Changes, IsAtRest, halves_seen};
 ghost use Rattle.pair_store.specs.Content.{ContentsLeft, IsSettled, IsSettledAlways, content_of};
-ghost use Rattle.store_model.specs.Found.{found};
+ghost use Rattle.store_model.specs.Found.{LaidStore, found};
 ghost use Rattle.store_check.specs.Checked.{IsMended};
+ghost use Rattle.store_check.specs.Files.{chains_of};
 ghost use Rattle.version_chain.specs.declared.head.Head.{Head};
 ghost use Rattle.recovery.specs.declared.refused.OpenRefused.{OpenRefused};
-ghost use Rattle.recovery.specs.Opening.{IsBad, IsFailed, IsNoStore, IsOpened, IsUntorn, IsUntornOver, SameFound, drives_of, store_of};
+ghost use Rattle.recovery.specs.Known.{why_of};
+ghost use Rattle.recovery.specs.Rolling.{Never, Rolls, RollingLinks, RollingTops};
+ghost use Rattle.recovery.specs.Opening.{IsBad, IsFailed, IsNoStore, IsOpened, IsUntorn, IsUntornOver, SameFound, drives_of, pair_result, store_of};
 
+use crate::known::{Known, known_store};
+use crate::mending::mend_all;
 use crate::opened::{Opened, OpenedOver, Unopened, UnopenedOver};
 use crate::refused::OpenRefused;
+use crate::rolling::roll_forward;
 use drives::Drives;
-use pair_store::Blocks;
+use pair_store::{Blocks, Pair};
 use std::alloc::Global;
+
+/// What was found, over the store.
+fn opened_of<B>(store: B, known: Known, since: u64) -> OpenedOver<B>
+    ensures store { result.store ≡ store }
+    ensures table { result.table ≡ known.table }
+    ensures map { result.map ≡ known.map }
+    ensures heads { result.heads ≡ known.heads }
+    ensures since { result.since ≡ since }
+{
+    let Known {
+        table,
+        map,
+        chains: _,
+        heads,
+    } = known;
+    OpenedOver {
+        store,
+        table,
+        map,
+        heads,
+        since,
+    }
+}
+
+/// A store that was checked, once its links are set and its members cleared.
+fn rolled<B: Blocks>(
+    store: B,
+    known: Known,
+    since: u64,
+) -> Result<OpenedOver<B>, UnopenedOver<B>>
+    ensures rolls { (most : ℕ) (before : LaidStore) (places : List ℕ) → most ≤ B.size store → known.chains.items ≡ chains_of before.files
+        → Rolls B.tells B.size B.moment B.content B.may_leave B.settled B.settled_always B.faults B.last_fault most
+        (λ c s. RollingLinks c s most before places 0) (λ c s. RollingTops c s most before places (length known.chains.items)) (why_of result) store (store_of result) }
+    ensures fails { Rolls B.tells B.size B.moment B.content B.may_leave B.settled B.settled_always B.faults B.last_fault 0 Never Never (why_of result) store (store_of result) }
+    ensures table { IfOk result (λ o. o.table ≡ known.table) }
+    ensures map { IfOk result (λ o. o.map ≡ known.map) }
+    ensures heads { IfOk result (λ o. o.heads ≡ known.heads) }
+    ensures since { IfOk result (λ o. o.since ≡ since) }
+{
+    let mut store = store;
+    match roll_forward(&mut store, known.chains.as_slice()) {
+        Ok(()) => Ok(opened_of(store, known, since)),
+        Err(why) => Err(UnopenedOver { store, why }),
+    }
+}
 
 /// Opens a store of blocks whose blocks are settled: it is checked, and then the links that a commit left outstanding are
 /// set, and after all of them the members of each last version are cleared. The files that are found stay the same,
@@ -51,10 +102,46 @@ pub fn open_over<B: Blocks>(
     ensures later { (h : Half) → (B.faults store h ≤ B.faults (store_of result) h) × (B.last_fault store h ≤ B.last_fault (store_of result) h) }
     ensures size { B.size (store_of result) ≡ B.size store }
 {
-    Err(UnopenedOver {
-        store,
-        why: OpenRefused::Memory,
-    })
+    let since = store.now();
+    let (store, known) = known_store(alloc, store);
+    match known {
+        Ok(known) => rolled(store, known, since),
+        Err(why) => Err(UnopenedOver { store, why }),
+    }
+}
+
+/// What an opening over two halves came to, with its drives.
+fn on_halves<V: Drives>(
+    over: Result<OpenedOver<Pair<V>>, UnopenedOver<Pair<V>>>,
+    since: u64,
+) -> Result<Opened<V>, Unopened<V>>
+    ensures { result ≡ pair_result over since }
+{
+    match over {
+        Ok(opened) => {
+            let OpenedOver {
+                store,
+                table,
+                map,
+                heads,
+                since: _,
+            } = opened;
+            Ok(Opened {
+                pair: store,
+                table,
+                map,
+                heads,
+                since,
+            })
+        }
+        Err(unopened) => {
+            let UnopenedOver { store, why } = unopened;
+            Err(Unopened {
+                drives: store.into_drives(),
+                why,
+            })
+        }
+    }
 }
 
 /// Opens the store on two halves: all its blocks are mended and checked, and then the links that a commit left outstanding
@@ -89,8 +176,13 @@ pub fn open<V: Drives>(alloc: Global, drives: V) -> Result<Opened<V>, Unopened<V
     ensures later { (h : Half) → (V.faults drives h ≤ V.faults (drives_of result) h) × (V.last_fault drives h ≤ V.last_fault (drives_of result) h) }
     ensures size { V.size (drives_of result) ≡ V.size drives }
 {
-    Err(Unopened {
-        drives,
-        why: OpenRefused::Memory,
-    })
+    let since = drives.now();
+    let mut pair = Pair::over(drives);
+    match mend_all(&mut pair) {
+        Ok(()) => on_halves(open_over(alloc, pair), since),
+        Err(fault) => Err(Unopened {
+            drives: pair.into_drives(),
+            why: OpenRefused::from(fault),
+        }),
+    }
 }

@@ -1,8 +1,13 @@
 // Why a store is not opened.
+ghost use Rattle.std.specs.Prelude.{◌≡◌};
+ghost use Rattle.recovery.specs.Opening.{refused_call, refused_check};
+ghost use Rattle.recovery.specs.declared.refused.OpenRefused.TheVariants.{Memory};
+
 use afs_base::BlockNo;
 use drives::Half;
 use page_codec::Why;
 use pair_store::PairFault;
+use std::alloc::{AllocError, AllocFailed};
 use store_check::CheckRefused;
 use thiserror::Error;
 
@@ -21,4 +26,48 @@ pub enum OpenRefused {
     /// There is not enough memory.
     #[error("out of memory")]
     Memory,
+}
+
+impl From<CheckRefused> for OpenRefused {
+    ghost from_gives = { λ refused e. e ≡ refused_check refused };
+
+    fn from(refused: CheckRefused) -> OpenRefused {
+        match refused {
+            CheckRefused::ReadFault { half } => OpenRefused::ReadFault { half },
+            CheckRefused::BadStore { block, why } => OpenRefused::BadStore { block, why },
+            CheckRefused::Memory => OpenRefused::Memory,
+        }
+    }
+}
+
+impl From<PairFault> for OpenRefused {
+    ghost from_gives = { λ fault e. e ≡ refused_call fault };
+
+    fn from(fault: PairFault) -> OpenRefused {
+        match fault {
+            PairFault::ReadFault { half } => OpenRefused::ReadFault { half },
+            PairFault::WriteFault { half } => OpenRefused::WriteFault { half },
+            PairFault::BothClosed { block } => OpenRefused::BadStore {
+                block,
+                why: Why::Closed,
+            },
+            PairFault::BadPage { block, why } => OpenRefused::BadStore { block, why },
+        }
+    }
+}
+
+impl From<AllocError> for OpenRefused {
+    ghost from_gives = { λ _ e. e ≡ Memory };
+
+    fn from(_e: AllocError) -> OpenRefused {
+        OpenRefused::Memory
+    }
+}
+
+impl<T: Drop> From<AllocFailed<T>> for OpenRefused {
+    ghost from_gives = { λ _ e. e ≡ Memory };
+
+    fn from(_e: AllocFailed<T>) -> OpenRefused {
+        OpenRefused::Memory
+    }
 }

@@ -1,15 +1,21 @@
 -- The walk along a chain of versions.
-use Rattle.std.proofs.Common.{◌≡◌, ◌-◌, ℕ, zero, suc, List, [], ◌∷◌, ◌++◌, length, Option, Some, None, option_map, Ok, Err, refl, sym, ap, ◌∙◌, arith, slice_get, length-append}
+use Rattle.std.proofs.Common.{◌≡◌, ◌-◌, ℕ, zero, suc, cond, List, [], ◌∷◌, ◌++◌, length, Option, Some, None, option_map, Ok, Err, refl, sym, ap, ◌∙◌, arith, slice_get, length-append}
+use Rattle.std.specs.List.{sum_by}
+use Rattle.std.specs.Option.{is_none}
+use Rattle.std.proofs.lemmas.List.Sums.{sum_by-cons}
 use Rattle.draft_model.specs.Places.{Store}
 use Rattle.store_model.specs.Walk.{Blocks, Refused, and_then, bind, done, if_some}
-use Rattle.store_model.specs.Laid.{LaidVersion, last_laid}
+use Rattle.store_model.specs.Laid.{LaidVersion, LaidFile, last_laid}
 use Rattle.store_model.specs.Chains.{version_at, chain_from, chain_at}
 use Rattle.store_check.specs.declared.version.FoundVersion.{FoundVersion}
 use Rattle.store_check.specs.Before.{PagesLie}
 use Rattle.store_check.specs.Versions.{shown_of}
 use Rattle.store_check.specs.declared.chain.Chain.{Chain}
-use Rattle.store_check.specs.Files.{first_serial, AllLie, LikeVersions, chain_of}
+use Rattle.store_check.specs.Files.{first_serial, unset_base, kept_by, AllLie, LikeVersions, chain_of, chains_of}
+use Rattle.store_check.specs.Counts.{kept_in, kept_of}
+use Rattle.store_check.specs.Tops.{unset_of}
 use Rattle.store_check.specs.Results.{Outcome}
+use Rattle.store_check.proofs.Adding.{kept_first}
 use Rattle.store_check.proofs.Passing.{prepended, prepended_nothing, prepended_twice}
 use Rattle.store_check.proofs.Lying.{all_append}
 
@@ -26,6 +32,34 @@ last_added earlier version =
 pub first_kept : (earlier : List LaidVersion) (version next : LaidVersion) → first_serial ((earlier ++ version ∷ []) ++ next ∷ []) ≡ first_serial (earlier ++ version ∷ [])
 first_kept [] version next = refl
 first_kept (x ∷ xs) version next = refl
+
+last_cons : (x y : LaidVersion) (ys : List LaidVersion) → last_laid (x ∷ y ∷ ys) ≡ last_laid (y ∷ ys)
+last_cons x y ys = ap (λ (n : ℕ). slice_get (x ∷ y ∷ ys) n) (let e : length (x ∷ y ∷ ys) - 1 ≡ suc (length (y ∷ ys) - 1) = Prim.omega arith in e)
+
+ends : (x : LaidVersion) (xs : List LaidVersion) → (v : LaidVersion) × (last_laid (x ∷ xs) ≡ Some v)
+ends x [] = (x, refl)
+ends x (y ∷ ys) = let e = ends y ys in (e.0, last_cons x y ys ∙ e.1)
+
+kept_chain : (versions : List LaidVersion) → kept_of (chain_of versions) ≡ kept_by versions
+kept_chain [] = refl
+kept_chain (x ∷ xs) =
+    let first : ℕ = first_serial (x ∷ xs) in
+    let unset : Option ℕ = unset_base (x ∷ xs) in
+    let kept : ℕ = kept_by (x ∷ xs) in
+    ap (λ o. kept_of (option_map (λ last. (let chain : Chain = record { last = shown_of last; first = first; unset = unset; kept = kept } in chain)) o)) (ends x xs).1
+
+-- the blocks that are kept of all objects are those that the files hold
+pub kept_heads : (files : List LaidFile) → sum_by kept_of (chains_of files) ≡ kept_in files
+kept_heads [] = refl
+kept_heads (file ∷ others) =
+    Prim.omega (arith, kept_heads others, kept_chain file.versions, sum_by-cons kept_of (chain_of file.versions) (chains_of others), kept_first file others)
+
+-- of versions to which one was added, the last one before is the last but one now
+pub unset_added : (versions : List LaidVersion) (last version : LaidVersion) → last_laid versions ≡ Some last → unset_base (versions ++ version ∷ []) ≡ unset_of (shown_of last)
+unset_added [] last version e = absurd cc
+unset_added (x ∷ []) last version e = let same : x ≡ last = cc in ap (λ v. unset_of (shown_of v)) same
+unset_added (x ∷ y ∷ []) last version e = unset_added (y ∷ []) last version (sym (last_cons x y []) ∙ e)
+unset_added (x ∷ y ∷ z ∷ zs) last version e = unset_added (y ∷ z ∷ zs) last version (sym (last_cons x y (z ∷ zs)) ∙ e)
 
 module _ (blocks : Blocks) (object : ℕ) where
   -- the last version in a chain
@@ -67,6 +101,7 @@ module _ (blocks : Blocks) (object : ℕ) where
     pub here : LaidVersion
     pub kept : last ≡ shown_of here
     pub begins : first_serial (earlier ++ here ∷ []) ≡ first.serial
+    pub set : unset_base (earlier ++ here ∷ []) ≡ None
     pub lie : AllLie store count (earlier ++ here ∷ [])
     pub lies : PagesLie store count here.block here.nodes
     pub is : chain_from blocks object count first places ≡ prepended earlier (chain_from blocks object most here seen)
@@ -78,6 +113,7 @@ module _ (blocks : Blocks) (object : ℕ) where
     here = first;
     kept = is;
     begins = refl;
+    set = refl;
     lie = (lies, tt);
     lies = lies;
     is = sym (prepended_nothing (chain_from blocks object count first places));
@@ -93,6 +129,8 @@ module _ (blocks : Blocks) (object : ℕ) where
       here = next;
       kept = is;
       begins = first_kept far.earlier far.here next ∙ far.begins;
+      set = unset_added (far.earlier ++ far.here ∷ []) far.here next (last_added far.earlier far.here)
+          ∙ ap (λ (o : Option ℕ). cond (is_none o) (Some far.here.block) None) (sym (ap (λ v. v.commit) far.kept) ∙ some);
       lie = all_append (λ version. PagesLie store count version.block version.nodes) (far.earlier ++ far.here ∷ []) (next ∷ []) far.lie (lies, tt);
       lies = lies;
       is = far.is ∙ ap (λ (m : ℕ). prepended far.earlier (chain_from blocks object m far.here seen)) more
@@ -110,6 +148,7 @@ module _ (blocks : Blocks) (object : ℕ) where
     like_far most far = record {
       is = ap Some far.kept ∙ sym (ap (option_map shown_of) (last_added far.earlier far.here));
       begins = far.begins;
+      set = far.set;
       lie = far.lie;
     }
 
@@ -142,14 +181,17 @@ module _ (blocks : Blocks) (object namer n : ℕ) (places : List ℕ) where
   chain_is first between is = ap (λ r. and_then r (chain_from blocks object blocks.count)) is
 
 -- what is kept of a chain whose last version is kept
-pub chain_kept : (store : Store) (count serial : ℕ) (last : FoundVersion) (versions : List LaidVersion) → LikeVersions store count serial last versions
-    → Some (let chain : Chain = record { last = last; first = serial } in chain) ≡ chain_of versions
-chain_kept store count serial last versions like = of (last_laid versions) like.is
+pub chain_kept : (store : Store) (count serial kept : ℕ) (last : FoundVersion) (versions : List LaidVersion) → LikeVersions store count serial last versions → kept ≡ kept_by versions
+    → Some (let chain : Chain = record { last = last; first = serial; unset = None; kept = kept } in chain) ≡ chain_of versions
+chain_kept store count serial kept last versions like counted = of (last_laid versions) like.is
   where
     of : (o : Option LaidVersion) → Some last ≡ option_map shown_of o
-        → Some (let chain : Chain = record { last = last; first = serial } in chain) ≡ option_map (λ v. record { last = shown_of v; first = first_serial versions }) o
+        → Some (let chain : Chain = record { last = last; first = serial; unset = None; kept = kept } in chain)
+        ≡ option_map (λ v. record { last = shown_of v; first = first_serial versions; unset = unset_base versions; kept = kept_by versions }) o
     of None e = absurd cc
     of (Some v) e =
         let same : last ≡ shown_of v = cc in
-        ap (λ (w : FoundVersion). Some (let chain : Chain = record { last = w; first = serial } in chain)) same
-        ∙ ap (λ (k : ℕ). Some (let chain : Chain = record { last = shown_of v; first = k } in chain)) (sym like.begins)
+        ap (λ (w : FoundVersion). Some (let chain : Chain = record { last = w; first = serial; unset = None; kept = kept } in chain)) same
+        ∙ ap (λ (k : ℕ). Some (let chain : Chain = record { last = shown_of v; first = k; unset = None; kept = kept } in chain)) (sym like.begins)
+        ∙ ap (λ (o : Option ℕ). Some (let chain : Chain = record { last = shown_of v; first = first_serial versions; unset = o; kept = kept } in chain)) (sym like.set)
+        ∙ ap (λ (n : ℕ). Some (let chain : Chain = record { last = shown_of v; first = first_serial versions; unset = unset_base versions; kept = n } in chain)) counted

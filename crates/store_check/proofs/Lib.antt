@@ -5,8 +5,10 @@ pub mod BeforeLaws
 pub mod Checks
 pub mod VersionWalk
 pub mod Lying
+pub mod Adding
 pub mod ChainWalk
 pub mod ListWalk
 pub mod TopLists
 pub mod MemberWalk
 pub mod WholeWalk
+pub mod Counting

@@ -18,17 +18,20 @@ use Rattle.store_model.specs.Members.{Top as ModelTop, Linked as ModelLinked, na
 use Rattle.store_check.specs.declared.refused.CheckRefused.{CheckRefused}
 use Rattle.store_check.specs.declared.refused.CheckRefused.TheVariants.{BadStore}
 use Rattle.store_check.specs.declared.version.Prior.{Prior}
+use Rattle.store_check.specs.declared.version.FoundVersion.{FoundVersion}
 use Rattle.store_check.specs.declared.chain.Chain.{Chain}
 use Rattle.store_check.specs.declared.tops.Top.{Top}
 use Rattle.store_check.specs.declared.tops.Linked.{Linked}
 use Rattle.store_check.specs.Before.{PagesLie}
 use Rattle.store_check.specs.Versions.{prior_of, shown_of, tried_at}
-use Rattle.store_check.specs.Files.{first_serial, chain_of, chains_of, AllLie, FilesLie}
-use Rattle.store_check.specs.Tops.{LikeLinked, at_object, may_link, prior_in, shown_top}
+use Rattle.store_check.specs.Files.{first_serial, unset_base, own_pages, kept_by, chain_of, chains_of, AllLie, FilesLie}
+use Rattle.store_check.specs.Counts.{kept_in}
+use Rattle.store_check.specs.Tops.{LikeLinked, at_object, may_link, prior_in, shown_top, unset_of, with_last}
 use Rattle.store_check.specs.Results.{Stops}
 use Rattle.store_check.proofs.Lying.{all_append}
 use Rattle.store_check.proofs.VersionWalk.{further}
-use Rattle.store_check.proofs.ChainWalk.{last_added}
+use Rattle.store_check.proofs.Adding.{kept_first, kept_longer}
+use Rattle.store_check.proofs.ChainWalk.{last_added, unset_added}
 
 -- ---- one version
 
@@ -73,25 +76,33 @@ pub record Longer (files : List LaidFile) (i : ℕ) (laid version : LaidVersion)
   pub chain : Chain
   pub was : slice_get (chains_of files) i ≡ Some (Some chain)
   pub shows : chain.last ≡ shown_of laid
-  pub is : chains_of (with_version_at i version files) ≡ set (chains_of files) i (Some (let c : Chain = record { last = shown_of version; first = chain.first } in c))
+  pub is : chains_of (with_version_at i version files) ≡ set (chains_of files) i (Some (with_last (shown_of version) (own_pages version) chain))
+  pub few : chain.kept ≤ kept_in files
 
 first_stays : (versions : List LaidVersion) (laid version : LaidVersion) → last_laid versions ≡ Some laid → first_serial (versions ++ version ∷ []) ≡ first_serial versions
 first_stays [] laid version e = absurd cc
 first_stays (x ∷ xs) laid version e = refl
 
+abbrev kept_as : FoundVersion → ℕ → Option ℕ → ℕ → Chain
+kept_as last first unset kept = record { last = last; first = first; unset = unset; kept = kept }
+
 pub longer_is : (files : List LaidFile) (i : ℕ) (laid version : LaidVersion) → last_at i files ≡ Some laid → Longer files i laid version
 longer_is [] i laid version e = absurd cc
 longer_is (file ∷ others) zero laid version e =
+    let more : List LaidVersion = file.versions ++ version ∷ [] in
     record {
-      chain = record { last = shown_of laid; first = first_serial file.versions };
-      was = ap (λ o. Some (option_map (λ last. (let c : Chain = record { last = shown_of last; first = first_serial file.versions } in c)) o)) e;
+      chain = record { last = shown_of laid; first = first_serial file.versions; unset = unset_base file.versions; kept = kept_by file.versions };
+      was = ap (λ o. Some (option_map (λ last. (let c : Chain = record { last = shown_of last; first = first_serial file.versions; unset = unset_base file.versions; kept = kept_by file.versions } in c)) o)) e;
       shows = refl;
-      is = ap (λ o. option_map (λ last. (let c : Chain = record { last = shown_of last; first = first_serial (file.versions ++ version ∷ []) } in c)) o ∷ chains_of others) (last_added file.versions version)
-          ∙ ap (λ n. Some (let c : Chain = record { last = shown_of version; first = n } in c) ∷ chains_of others) (first_stays file.versions laid version e);
+      is = ap (λ o. option_map (λ last. kept_as (shown_of last) (first_serial more) (unset_base more) (kept_by more)) o ∷ chains_of others) (last_added file.versions version)
+          ∙ ap (λ n. Some (kept_as (shown_of version) n (unset_base more) (kept_by more)) ∷ chains_of others) (first_stays file.versions laid version e)
+          ∙ ap (λ (o : Option ℕ). Some (kept_as (shown_of version) (first_serial file.versions) o (kept_by more)) ∷ chains_of others) (unset_added file.versions laid version e)
+          ∙ ap (λ n. Some (kept_as (shown_of version) (first_serial file.versions) (unset_of (shown_of laid)) n) ∷ chains_of others) (kept_longer file.versions version);
+      few = Prim.omega (arith, kept_first file others);
     }
 longer_is (file ∷ others) (suc i) laid version e =
     let rest = longer_is others i laid version e in
-    record { chain = rest.chain; was = rest.was; shows = rest.shows; is = ap (λ cs. chain_of file.versions ∷ cs) rest.is }
+    record { chain = rest.chain; was = rest.was; shows = rest.shows; is = ap (λ cs. chain_of file.versions ∷ cs) rest.is; few = Prim.omega (arith, rest.few, kept_first file others) }
 
 pub longer_lies : (store : Store) (count : ℕ) (i : ℕ) (version : LaidVersion) (files : List LaidFile) → PagesLie store count version.block version.nodes → FilesLie store count files
     → FilesLie store count (with_version_at i version files)
@@ -154,23 +165,23 @@ module _ (blocks : Blocks) (model : ModelTop) (member : MemberValue) (from : Mod
   by_test laid false e =
       ap (λ t. and_then ((if t then done t else refuse model.version.block Member) places) (λ _. bind (version_linked blocks model.version.block member laid from.files) named_too)) (sym e)
 
-  by_last : (first : ℕ) (mark : Option Bool) (l : Option LaidVersion) → ((laid : LaidVersion) → l ≡ Some laid → mark ≡ Some (list_any (nat_eq member.object) from.named))
-      → PriorTold l (prior_in top member.object (Some (option_map (λ last. (let c : Chain = record { last = shown_of last; first = first } in c)) l)) mark)
-  by_last first mark None marked = refused_none
-  by_last first mark (Some laid) marked =
-      let c : Chain = record { last = shown_of laid; first = first } in
+  by_last : (first : ℕ) (unset : Option ℕ) (kept : ℕ) (mark : Option Bool) (l : Option LaidVersion) → ((laid : LaidVersion) → l ≡ Some laid → mark ≡ Some (list_any (nat_eq member.object) from.named))
+      → PriorTold l (prior_in top member.object (Some (option_map (λ last. (let c : Chain = record { last = shown_of last; first = first; unset = unset; kept = kept } in c)) l)) mark)
+  by_last first unset kept mark None marked = refused_none
+  by_last first unset kept mark (Some laid) marked =
+      let c : Chain = record { last = shown_of laid; first = first; unset = unset; kept = kept } in
       subst (λ (m : Option Bool). PriorTold (Some laid) (prior_in top member.object (Some (Some c)) m)) (sym (marked laid refl))
       (by_test laid (may_link model.object member.object (shown_of laid) (list_any (nat_eq member.object) from.named)) refl)
 
   by_file : (mark : Option Bool) (o : Option LaidFile) → ((file : LaidFile) → o ≡ Some file → mark ≡ Some (list_any (nat_eq member.object) from.named))
       → PriorTold (option_and_then (λ file. last_laid file.versions) o) (prior_in top member.object (option_map (λ file. chain_of file.versions) o) mark)
   by_file mark None marked = refused_none
-  by_file mark (Some file) marked = by_last (first_serial file.versions) mark (last_laid file.versions) (λ laid e. marked file refl)
+  by_file mark (Some file) marked = by_last (first_serial file.versions) (unset_base file.versions) (kept_by file.versions) mark (last_laid file.versions) (λ laid e. marked file refl)
 
   place_back : (n : ℕ) → (n == 0) ≡ false → n - 1 + 1 ≡ n
   place_back n e = Prim.grind (arith, nat_tests)
 
-  pub prior_told : (store : Store) (count : ℕ) (kept : Linked) → LikeLinked store count kept from
+  pub prior_told : (store : Store) (count : ℕ) (kept : Linked) → LikeLinked store count places kept from
       → PriorTold (last_in member.object from.files) (prior_in top member.object (at_object member.object kept.chains.items) (at_object member.object kept.named.items))
   prior_told store count kept like = by_zero (member.object == 0) refl
     where
@@ -220,12 +231,12 @@ module _ (blocks : Blocks) (model : ModelTop) where
   -- the walk over the members has come to this one
   pub record MembersSoFar (store : Store) (count : ℕ) (members : List MemberValue) (first : ModelLinked) (places : List ℕ) (k : ℕ) (kept : Linked) (seen : List ℕ) : Type 0 where
     pub linked : ModelLinked
-    pub like : LikeLinked store count kept linked
+    pub like : LikeLinked store count seen kept linked
     pub is : members_linked blocks model members first places ≡ members_linked blocks model (drop k members) linked seen
 
   pub members_on : (store : Store) (count : ℕ) (members : List MemberValue) (first : ModelLinked) (places : List ℕ) (k : ℕ) (kept next : Linked) (seen after : List ℕ) (member : MemberValue) (found : ModelLinked)
       → slice_get members k ≡ Some member → (far : MembersSoFar store count members first places k kept seen)
-      → LikeLinked store count next found → member_linked blocks model member far.linked (last_in member.object far.linked.files) seen ≡ Ok (found, after)
+      → LikeLinked store count after next found → member_linked blocks model member far.linked (last_in member.object far.linked.files) seen ≡ Ok (found, after)
       → MembersSoFar store count members first places (k + 1) next after
   members_on store count members first places k kept next seen after member found here far like is = record {
     linked = found;
@@ -252,12 +263,12 @@ module _ (blocks : Blocks) (model : ModelTop) where
 -- the walk over the tops has come to this one
 pub record TopsWalked (blocks : Blocks) (store : Store) (count : ℕ) (models : List ModelTop) (first : ModelLinked) (places : List ℕ) (k : ℕ) (kept : Linked) (seen : List ℕ) : Type 0 where
   pub linked : ModelLinked
-  pub like : LikeLinked store count kept linked
+  pub like : LikeLinked store count seen kept linked
   pub is : tops_linked blocks models first places ≡ tops_linked blocks (drop k models) linked seen
 
 module _ (blocks : Blocks) (store : Store) (count : ℕ) (models : List ModelTop) (first : ModelLinked) (places : List ℕ) (k : ℕ) (kept : Linked) (seen : List ℕ) where
   pub tops_go_on : (next : Linked) (after : List ℕ) (model : ModelTop) (found : ModelLinked) → slice_get models k ≡ Some model → (far : TopsWalked blocks store count models first places k kept seen)
-      → LikeLinked store count next found → members_linked blocks model model.version.members far.linked seen ≡ Ok (found, after)
+      → LikeLinked store count after next found → members_linked blocks model model.version.members far.linked seen ≡ Ok (found, after)
       → TopsWalked blocks store count models first places (k + 1) next after
   unfolding tops_linked bind
   tops_go_on next after model found here far like is = record {

@@ -7,7 +7,7 @@ use Rattle.store_model.specs.Laid.{LaidVersion, LaidFile, last_laid}
 use Rattle.store_model.specs.Members.{Top as ModelTop, top_of, tops_from, names_none}
 use Rattle.store_check.specs.declared.chain.Chain.{Chain}
 use Rattle.store_check.specs.declared.tops.Top.{Top}
-use Rattle.store_check.specs.Files.{first_serial, chain_of, chains_of}
+use Rattle.store_check.specs.Files.{first_serial, unset_base, kept_by, chain_of, chains_of}
 use Rattle.store_check.specs.Versions.{shown_of}
 use Rattle.store_check.specs.Tops.{top_in, tops_in, shown_top}
 
@@ -32,9 +32,10 @@ pub tops_end : (chains : List (Option Chain)) (i : ℕ) (tops : List Top) → le
 tops_end chains i tops past far = sym (far.is ∙ ap (λ (xs : List (Option Chain)). tops ++ tops_in (i + 1) xs) (drop_of_length-le chains past) ∙ append-nil tops)
 
 -- what is kept of the tops of files are the tops of what is kept of them
-top_is : (object first : ℕ) (o : Option LaidVersion) → map shown_top (top_of object o) ≡ top_in object (option_map (λ last. record { last = shown_of last; first = first }) o)
-top_is object first None = refl
-top_is object first (Some last) = of (names_none last)
+top_is : (object first : ℕ) (unset : Option ℕ) (kept : ℕ) (o : Option LaidVersion)
+    → map shown_top (top_of object o) ≡ top_in object (option_map (λ last. record { last = shown_of last; first = first; unset = unset; kept = kept }) o)
+top_is object first unset kept None = refl
+top_is object first unset kept (Some last) = of (names_none last)
   where
     of : (b : Bool) → map shown_top (cond b [] ((let top : ModelTop = record { object = object; version = last } in top) ∷ []))
         ≡ cond b [] ((let top : Top = record { object = object; block = last.block; members = last.members } in top) ∷ [])
@@ -45,5 +46,5 @@ pub tops_are : (object : ℕ) (files : List LaidFile) → map shown_top (tops_fr
 tops_are object [] = refl
 tops_are object (file ∷ others) =
     map-append shown_top (top_of object (last_laid file.versions)) (tops_from (suc object) others)
-    ∙ ap (λ (xs : List Top). xs ++ map shown_top (tops_from (suc object) others)) (top_is object (first_serial file.versions) (last_laid file.versions))
+    ∙ ap (λ (xs : List Top). xs ++ map shown_top (tops_from (suc object) others)) (top_is object (first_serial file.versions) (unset_base file.versions) (kept_by file.versions) (last_laid file.versions))
     ∙ ap (λ (xs : List Top). top_in object (chain_of file.versions) ++ xs) (tops_are (suc object) others)

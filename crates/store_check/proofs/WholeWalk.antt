@@ -1,5 +1,5 @@
 -- The walk over a whole store.
-use Rattle.std.proofs.Common.{◌≡◌, ◌<◌, ◌==◌, if◌then◌else◌, nat_le, ℕ, zero, suc, Bool, true, false, List, [], ◌∷◌, length, map, replicate, Option, Some, None, Result, Ok, Err, refl, sym, ap, subst, ◌∙◌, slice_get, arith}
+use Rattle.std.proofs.Common.{◌≡◌, ◌<◌, ◌≤◌, ◌==◌, if◌then◌else◌, nat_le, ℕ, zero, suc, Bool, true, false, List, [], ◌∷◌, length, map, replicate, Option, Some, None, Result, Ok, Err, refl, sym, ap, subst, ◌∙◌, slice_get, arith}
 use Rattle.page_codec.specs.declared.why.Why.{Why}
 use Rattle.page_codec.specs.declared.why.Why.TheVariants.{Member, Blocks as TooMany}
 use Rattle.page_codec.specs.Values.{EntryValue, MemberValue, RootValue, TableValue}
@@ -21,6 +21,7 @@ use Rattle.store_check.specs.declared.tops.Top.{Top}
 use Rattle.store_check.specs.declared.tops.Linked.{Linked}
 use Rattle.store_check.specs.Rows.{row_of}
 use Rattle.store_check.specs.Files.{LikeFiles, chains_of}
+use Rattle.store_check.specs.Counts.{kept_in}
 use Rattle.store_check.specs.Tops.{LikeLinked, shown_top, tops_in}
 use Rattle.store_check.specs.Checked.{root_from, walk_from, Answers, IsEnded, LikeTable}
 use Rattle.store_check.specs.Results.{Outcome, Shows}
@@ -94,10 +95,11 @@ length_marks : (n : ℕ) → length (replicate n false) ≡ n
 length_marks zero = refl
 length_marks (suc n) = ap suc (length_marks n)
 
-pub like_first : (store : Store) (count : ℕ) (kept : Linked) (files : List LaidFile) → LikeFiles store count kept.chains.items files → kept.named.items ≡ replicate (length kept.chains.items) false
-    → LikeLinked store count kept (record { files = files; named = [] })
-like_first store count kept files like marks = record {
+pub like_first : (store : Store) (count : ℕ) (places : List ℕ) (kept : Linked) (files : List LaidFile) → LikeFiles store count kept.chains.items files → kept_in files ≤ length places → kept.named.items ≡ replicate (length kept.chains.items) false
+    → LikeLinked store count places kept (record { files = files; named = [] })
+like_first store count places kept files like few marks = record {
   files = like;
+  few = few;
   named = record {
     is = λ k low. ap (λ (ms : List Bool). slice_get ms k) marks
         ∙ none_marked (length kept.chains.items) k (subst (λ (n : ℕ). k < n) (ap length marks ∙ length_marks (length kept.chains.items)) low);

@@ -1,10 +1,11 @@
 -- How many blocks are places of a store: the parts of its table, and the pages of its versions, each counted once.
-use Rattle.std.specs.Prelude.{◌≡◌, ◌==◌, ◌+◌, ℕ, ◌<◌, ◌≤◌, nat_eq, List, [], length, Option, Ok, count_by, if◌then◌else◌}
+use Rattle.std.specs.Prelude.{◌≡◌, ◌==◌, ◌+◌, ℕ, ◌<◌, ◌≤◌, nat_eq, List, [], length, Option, Some, None, Ok, count_by, if◌then◌else◌}
 use Rattle.std.specs.List.{AllByRecursion, IsDistinct, sum_by}
 use Rattle.std.specs.Option.{is_some}
 use Rattle.page_codec.specs.Values.{RootValue}
 use Rattle.store_model.specs.Laid.{LaidFile}
 use Rattle.store_model.specs.Found.{LaidStore, laid}
+use Rattle.store_check.specs.declared.chain.Chain.{Chain}
 use Rattle.store_check.specs.Files.{kept_by}
 
 -- how many blocks the table has beside block 0
@@ -14,6 +15,11 @@ parts_in root = if root.format == 1 then 0 else count_by is_some root.parts
 -- how many blocks the versions of files hold
 abbrev pub kept_in : List LaidFile → ℕ
 kept_in files = sum_by (λ file. kept_by file.versions) files
+
+-- how many blocks the file of an object holds, where it is live
+abbrev pub kept_of : Option Chain → ℕ
+kept_of None = 0
+kept_of (Some chain) = chain.kept
 
 -- a block that may be a place
 abbrev pub IsPlace : ℕ → ℕ → Type 0

@@ -48,10 +48,11 @@ AllLie store count versions = AllByRecursion (λ version. PagesLie store count v
 abbrev pub FilesLie : Store → ℕ → List LaidFile → Type 0
 FilesLie store count files = AllByRecursion (λ file. AllLie store count file.versions) files
 
--- the versions from this one on: the last of them is kept, and all of them lie
+-- the versions from this one on: the last of them is kept, each link is set, and all of them lie
 pub record LikeVersions (store : Store) (count serial : ℕ) (last : FoundVersion) (versions : List LaidVersion) : Type 0 where
   pub is : Some last ≡ option_map shown_of (last_laid versions)
   pub begins : first_serial versions ≡ serial
+  pub set : unset_base versions ≡ None
   pub lie : AllLie store count versions
 
 -- what is kept of these files, whose versions all lie

@@ -10,6 +10,7 @@ ghost use Rattle.store_check.specs.Surveyed.{IsTold, blocks_in};
 ghost use Rattle.store_check.specs.declared.refused.CheckRefused.{CheckRefused};
 ghost use Rattle.store_check.specs.Results.{Shows, Walks};
 ghost use Rattle.store_check.specs.Files.{LikeFiles, chains_of};
+ghost use Rattle.store_check.specs.Counts.{kept_in};
 ghost use Rattle.store_check.specs.Checked.{Answers, IsEnded, IsMended, LikeTable, root_from, walk_from};
 
 use crate::chain::Chain;
@@ -119,7 +120,7 @@ fn link_files<B: Blocks>(
     ensures began { survey.new.began ≡ survey.old.began }
     ensures count { survey.new.count ≡ survey.old.count }
     ensures walk { IsTold B.tells B.settled survey.old → (files : List LaidFile)
-        → LikeFiles (pages_of (B.content survey.old.began)) survey.old.count chains.items files
+        → LikeFiles (pages_of (B.content survey.old.began)) survey.old.count chains.items files → kept_in files ≤ length survey.old.list
         → Shows (λ found (linked : ModelLinked). (found.table ≡ table) × (found.linked.chains.items ≡ chains_of linked.files)) result
         (tops_linked (blocks_in B.content survey.old) (tops_from 1 files) (record { files = files; named = [] }) survey.old.list) survey.new.list }
     ensures unread { (h : Half) → IsErrOf result (CheckRefused.ReadFault h)

@@ -4,6 +4,7 @@
 mod before;
 mod chain;
 mod checking;
+mod counts;
 mod files;
 mod listed;
 mod pages;
@@ -17,6 +18,7 @@ mod version;
 
 pub use chain::Chain;
 pub use checking::{Checked, check};
+pub use counts::places_are_counted;
 pub use refused::CheckRefused;
 pub use rows::root_block;
 pub use version::FoundVersion;

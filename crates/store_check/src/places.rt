@@ -1,6 +1,7 @@
 // The places that a walk over a store found so far.
-ghost use Rattle.std.specs.Prelude.{◌≡◌, ◌<◌, ◌≤◌, ◌∷◌, [], false, nat_eq, length, IfOk};
+ghost use Rattle.std.specs.Prelude.{◌≡◌, ◌+◌, ◌<◌, ◌≤◌, ◌∷◌, [], false, nat_eq, length, IfOk};
 ghost use Rattle.std.specs.List.{list_any};
+ghost use Rattle.block_map.specs.States.{free_count};
 ghost use Rattle.store_check.specs.Marks.{Marks};
 
 use crate::listed::Listed;
@@ -18,14 +19,15 @@ pub struct Places {
 }
 
 impl Model for Places {
-    ghost use Rattle.std.specs.Prelude.{◌≡◌, ◌≤◌, length};
+    ghost use Rattle.std.specs.Prelude.{◌≡◌, ◌+◌, ◌≤◌, length};
+    ghost use Rattle.block_map.specs.States.{free_count};
     ghost use Rattle.store_check.specs.Marks.{Marks, PlacesValue};
 
     ghost Value = { PlacesValue };
 
     ghost view = { λ p. record { count = p.count; list = p.list } };
 
-    ghost invariant = { λ p. (length p.map ≡ p.count) × Marks p.list p.map };
+    ghost invariant = { λ p. (length p.map ≡ p.count) × Marks p.list p.map × (free_count p.map + 1 + length p.list ≡ p.count) };
 }
 
 impl Places {
@@ -48,6 +50,14 @@ impl Places {
         ensures { result ≡ self.now.count }
     {
         self.count
+    }
+
+    /// How many places there are, at most 65535.
+    pub fn found(&self) -> u32
+        ensures value { result ≡ length self.now.list }
+        ensures most { result < 65536 }
+    {
+        self.count - 1 - self.map.free()
     }
 
     /// Whether the block is a place.
@@ -78,6 +88,7 @@ impl Places {
     pub fn into_map(self) -> BlockMap
         ensures size { length result ≡ self.count }
         ensures marks { Marks self.list result }
+        ensures free { free_count result + 1 + length self.list ≡ self.count }
     {
         let Places {
             map,

@@ -1,7 +1,8 @@
 // A walk over the blocks of a store, which marks the places that it finds.
-ghost use Rattle.std.specs.Prelude.{◌≡◌, ◌<◌, ◌≤◌, ◌==◌, ℕ, List, [], IsErrOf, nat_eq, false, length};
+ghost use Rattle.std.specs.Prelude.{◌≡◌, ◌+◌, ◌<◌, ◌≤◌, ◌==◌, ℕ, List, [], IsErrOf, nat_eq, false, length};
 ghost use Rattle.std.specs.List.{list_any};
 ghost use Rattle.drives.specs.declared.device.Half.{Half};
+ghost use Rattle.block_map.specs.States.{free_count};
 ghost use Rattle.page_codec.specs.Causes.{page_of};
 ghost use Rattle.store_model.specs.Walk.{place, add, bind, content_at};
 ghost use Rattle.store_model.specs.Pages.{page_at};
@@ -55,6 +56,7 @@ impl<B: Blocks> Survey<B> {
         ensures only { OnlyRead B.tells B.size B.moment B.content B.may_leave B.settled B.settled_always B.faults B.last_fault self.began result.0 }
         ensures size { length result.1 ≡ self.count }
         ensures marks { Marks self.list result.1 }
+        ensures free { free_count result.1 + 1 + length self.list ≡ self.count }
     {
         let Survey { reading, places } = self;
         (reading.into_store(), places.into_map())
@@ -65,6 +67,14 @@ impl<B: Blocks> Survey<B> {
         ensures { result ≡ self.now.count }
     {
         self.places.count()
+    }
+
+    /// How many places were found, at most 65535.
+    pub fn found(&self) -> u32
+        ensures value { result ≡ length self.now.list }
+        ensures most { result < 65536 }
+    {
+        self.places.found()
     }
 
     /// Whether the block, which is one of the store's and not block 0, is a place.

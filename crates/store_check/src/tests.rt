@@ -1,7 +1,7 @@
 //! Stores made by hand: a file with two versions, a member that is not linked yet, and each cause once.
 ghost use Rattle.std.specs.Prelude.{◌≡◌, ◌*◌, length, IfOk};
 
-use crate::{CheckRefused, check};
+use crate::{Chain, CheckRefused, check};
 use afs_base::BlockNo;
 use drives::MemDrives;
 use page_codec::{Why, fresh_image};
@@ -125,20 +125,64 @@ fn each_cause_is_found(rt: HostRuntime) -> Result<(), Fail> {
     Ok(())
 }
 
+/// What is kept of a file: the block of its last version, the serial of its first one, the block of the version whose link to the
+/// last one is outstanding, and how many blocks its versions hold.
+type Kept = (u32, u64, Option<u32>, u32);
+
+/// What is kept of files 1 to 3, and how many blocks are free.
+const KEPT: [(&[Patch], [Kept; 3], u32); 4] = [
+    (
+        &[],
+        [(4, 1, None, 2), (5, 1, Some(2), 2), (3, 1, None, 1)],
+        2,
+    ),
+    // The link is set.
+    (
+        &[(2048 + 82, &[0, 0, 0, 5])],
+        [(4, 1, None, 2), (5, 1, None, 2), (3, 1, None, 1)],
+        2,
+    ),
+    // Version 2 of file 1 has a page of its own in block 6.
+    (
+        &[(4096 + 4, &[0x10, 0, 0, 6]), (6144, &[0xA5, 0x50, 1])],
+        [(4, 1, None, 3), (5, 1, Some(2), 2), (3, 1, None, 1)],
+        1,
+    ),
+    // Both versions of file 1 have the page in block 6, which counts once.
+    (
+        &[
+            (1024 + 4, &[0, 0, 0, 6]),
+            (4096 + 4, &[0, 0, 0, 6]),
+            (6144, &[0xA5, 0x50, 1]),
+        ],
+        [(4, 1, None, 3), (5, 1, Some(2), 2), (3, 1, None, 1)],
+        1,
+    ),
+];
+
+fn kept_of(chain: &Option<Chain>) -> Option<Kept> {
+    chain.as_ref().map(|chain| {
+        (
+            chain.last.block.get(),
+            chain.first,
+            chain.unset.map(|block| block.get()),
+            chain.kept,
+        )
+    })
+}
+
 #[test]
-fn a_lawful_store_is_told(rt: HostRuntime) -> Result<(), Fail> {
-    let pair = pair_with(rt.alloc(), &[])?;
-    let (_pair, checked) = check(rt.alloc(), pair);
-    let checked = checked?;
-    assert_eq!(rt; checked.map.free(), 2);
-    assert_eq!(rt; checked.links.len(), 1);
-    assert_eq!(rt; checked.tops.len(), 1);
-    assert_eq!(rt; checked.links[0].base.get(), 2);
-    assert_eq!(rt; checked.links[0].next.get(), 5);
-    assert_eq!(rt; checked.heads.len(), 60);
-    let last = checked.heads[0]
-        .as_ref()
-        .map(|chain| chain.last.block.get());
-    assert_eq!(rt; last, Some(4));
+fn what_is_kept_of_each_file(rt: HostRuntime) -> Result<(), Fail> {
+    'cases: for (patches, kept, free) in &KEPT {
+        let pair = pair_with(rt.alloc(), patches)?;
+        let (_pair, checked) = check(rt.alloc(), pair);
+        let checked = checked?;
+        assert_eq!(rt; checked.map.free(), *free);
+        assert_eq!(rt; checked.heads.len(), 60);
+        'files: for i in 0..3 {
+            assert_eq!(rt; kept_of(&checked.heads[i]), Some(kept[i]));
+        }
+        assert_eq!(rt; kept_of(&checked.heads[3]), None);
+    }
     Ok(())
 }

@@ -1,5 +1,5 @@
 // Versions that another file's last version names, and that may not be linked to their own file yet.
-ghost use Rattle.std.specs.Prelude.{◌≡◌, ◌≢◌, ◌==◌, ◌&&◌, ◌+◌, ◌-◌, ◌<◌, ◌≤◌, ℕ, List, [], ◌∷◌, ◌++◌, length, Option, Some, IsErrOf, IfOk, OnOk, MatchOption, slice_get, set, map};
+ghost use Rattle.std.specs.Prelude.{◌≡◌, ◌≢◌, ◌==◌, ◌&&◌, ◌+◌, ◌-◌, ◌^◌, ◌<◌, ◌≤◌, ℕ, List, [], ◌∷◌, ◌++◌, length, Option, Some, IsErrOf, IfOk, OnOk, MatchOption, slice_get, set, map};
 ghost use Rattle.std.specs.Option.{is_none};
 ghost use Rattle.drives.specs.declared.device.Half.{Half};
 ghost use Rattle.page_codec.specs.Values.{MemberValue};
@@ -16,7 +16,8 @@ ghost use Rattle.store_check.specs.declared.refused.CheckRefused.{CheckRefused};
 ghost use Rattle.store_check.specs.Results.{Shows};
 ghost use Rattle.store_check.specs.Versions.{prior_of, shown_of, tried_at};
 ghost use Rattle.store_check.specs.Files.{LikeFiles};
-ghost use Rattle.store_check.specs.Tops.{AreNamed, LikeLinked, at_object, may_link, prior_in, shown_top, top_in, tops_in};
+ghost use Rattle.store_check.specs.Counts.{kept_in};
+ghost use Rattle.store_check.specs.Tops.{AreNamed, LikeLinked, at_object, may_link, prior_in, shown_top, top_in, tops_in, unset_of, with_last};
 
 use crate::chain::Chain;
 use crate::refused::CheckRefused;
@@ -183,25 +184,45 @@ fn prior_at(
     prior_from(top, object, &chains[at - 1], named[at - 1])
 }
 
-/// Puts a version behind the last one of the file at place `i`, which is live.
-fn set_last(chains: &mut Vec<Option<Chain>>, i: usize, last: FoundVersion)
-    requires { i < length chains.old.items }
-    ensures set { (chain : Chain) → slice_get chains.old.items i ≡ Some (Some chain)
-        → chains.new.items ≡ set chains.old.items i (Some (record { last = last; first = chain.first })) }
-    ensures size { length chains.new.items ≡ length chains.old.items }
+/// The block of a version that names no next one.
+fn unset_of(version: &FoundVersion) -> Option<BlockNo>
+    ensures { result ≡ unset_of version.now }
 {
-    let first = first_of(&chains[i]);
-    chains[i] = Some(Chain { last, first });
+    match version.commit {
+        None => Some(version.block),
+        Some(_) => None,
+    }
 }
 
-/// The serial of the first version, where there is one.
-fn first_of(chain: &Option<Chain>) -> u64
-    ensures { (kept : Chain) → chain.now ≡ Some kept → result ≡ kept.first }
+/// What is kept of a file with one more version, which holds so many blocks.
+fn with_last(chain: &Option<Chain>, last: FoundVersion, pages: u32) -> Chain
+    ensures { (kept : Chain) → chain.now ≡ Some kept → kept.kept + pages < 2 ^ 32 → result ≡ with_last last pages kept }
 {
     match chain {
-        None => 0,
-        Some(chain) => chain.first,
+        None => Chain {
+            last,
+            first: 0,
+            unset: None,
+            kept: pages,
+        },
+        Some(chain) => Chain {
+            unset: unset_of(&chain.last),
+            last,
+            first: chain.first,
+            kept: chain.kept.saturating_add(pages),
+        },
     }
+}
+
+/// Puts a version, which holds so many blocks, behind the last one of the file at place `i`, which is live.
+fn set_last(chains: &mut Vec<Option<Chain>>, i: usize, last: FoundVersion, pages: u32)
+    requires { i < length chains.old.items }
+    ensures set { (chain : Chain) → slice_get chains.old.items i ≡ Some (Some chain) → chain.kept + pages < 2 ^ 32
+        → chains.new.items ≡ set chains.old.items i (Some (with_last last pages chain)) }
+    ensures size { length chains.new.items ≡ length chains.old.items }
+{
+    let longer = with_last(&chains[i], last, pages);
+    chains[i] = Some(longer);
 }
 
 /// Marks an object as named, where there is one of this number.
@@ -229,9 +250,9 @@ fn link_version<B: Blocks>(
     ensures began { survey.new.began ≡ survey.old.began }
     ensures count { survey.new.count ≡ survey.old.count }
     ensures walk { IsTold B.tells B.settled survey.old → (laid : LaidVersion) (files : List LaidFile)
-        → LikeFiles (pages_of (B.content survey.old.began)) survey.old.count linked.old.chains.items files
+        → LikeFiles (pages_of (B.content survey.old.began)) survey.old.count linked.old.chains.items files → kept_in files ≤ length survey.old.list
         → last_in object files ≡ Some laid → prior.now ≡ prior_of laid
-        → Shows (λ _ (found : List LaidFile). LikeFiles (pages_of (B.content survey.old.began)) survey.old.count linked.new.chains.items found) result
+        → Shows (λ _ (found : List LaidFile). LikeFiles (pages_of (B.content survey.old.began)) survey.old.count linked.new.chains.items found × (kept_in found ≤ length survey.new.list)) result
         (version_linked (blocks_in B.content survey.old) namer (record { object = object; block = n }) laid files survey.old.list) survey.new.list }
     ensures named { linked.new.named.items ≡ linked.old.named.items }
     ensures size { length linked.new.chains.items ≡ length linked.old.chains.items }
@@ -245,12 +266,10 @@ fn link_version<B: Blocks>(
         serial: prior.serial,
         block: prior.block,
     });
+    let found = survey.found();
     let last = tried_member(survey, object, namer, n, &before)?;
-    linked.links.push(Link {
-        base: prior.block,
-        next: n,
-    })?;
-    set_last(&mut linked.chains, object as usize - 1, last);
+    let pages = survey.found().saturating_sub(found);
+    set_last(&mut linked.chains, object as usize - 1, last, pages);
     Ok(())
 }
 
@@ -266,8 +285,8 @@ fn link_member<B: Blocks>(
     ensures began { survey.new.began ≡ survey.old.began }
     ensures count { survey.new.count ≡ survey.old.count }
     ensures walk { IsTold B.tells B.settled survey.old → (model : ModelTop) (from : ModelLinked)
-        → top.now ≡ shown_top model → LikeLinked (pages_of (B.content survey.old.began)) survey.old.count linked.old from
-        → Shows (λ _ (found : ModelLinked). LikeLinked (pages_of (B.content survey.old.began)) survey.old.count linked.new found) result
+        → top.now ≡ shown_top model → LikeLinked (pages_of (B.content survey.old.began)) survey.old.count survey.old.list linked.old from
+        → Shows (λ _ (found : ModelLinked). LikeLinked (pages_of (B.content survey.old.began)) survey.old.count survey.new.list linked.new found) result
         (member_linked (blocks_in B.content survey.old) model (record { object = object; block = n }) from (last_in object from.files) survey.old.list) survey.new.list }
     ensures size { OnOk result (length linked.new.named.items ≡ length linked.new.chains.items) }
     ensures unread { (h : Half) → IsErrOf result (CheckRefused.ReadFault h)
@@ -294,8 +313,8 @@ fn link_members<B: Blocks>(
     ensures began { survey.new.began ≡ survey.old.began }
     ensures count { survey.new.count ≡ survey.old.count }
     ensures walk { IsTold B.tells B.settled survey.old → (model : ModelTop) (from : ModelLinked)
-        → top.now ≡ shown_top model → LikeLinked (pages_of (B.content survey.old.began)) survey.old.count linked.old from
-        → Shows (λ _ (found : ModelLinked). LikeLinked (pages_of (B.content survey.old.began)) survey.old.count linked.new found) result
+        → top.now ≡ shown_top model → LikeLinked (pages_of (B.content survey.old.began)) survey.old.count survey.old.list linked.old from
+        → Shows (λ _ (found : ModelLinked). LikeLinked (pages_of (B.content survey.old.began)) survey.old.count survey.new.list linked.new found) result
         (members_linked (blocks_in B.content survey.old) model top.now.members from survey.old.list) survey.new.list }
     ensures size { OnOk result (length linked.new.named.items ≡ length linked.new.chains.items) }
     ensures unread { (h : Half) → IsErrOf result (CheckRefused.ReadFault h)
@@ -319,8 +338,8 @@ pub fn link_tops<B: Blocks>(
     ensures began { survey.new.began ≡ survey.old.began }
     ensures count { survey.new.count ≡ survey.old.count }
     ensures walk { IsTold B.tells B.settled survey.old → (models : List ModelTop) (from : ModelLinked)
-        → tops.now ≡ map shown_top models → LikeLinked (pages_of (B.content survey.old.began)) survey.old.count linked.old from
-        → Shows (λ _ (found : ModelLinked). LikeLinked (pages_of (B.content survey.old.began)) survey.old.count linked.new found) result
+        → tops.now ≡ map shown_top models → LikeLinked (pages_of (B.content survey.old.began)) survey.old.count survey.old.list linked.old from
+        → Shows (λ _ (found : ModelLinked). LikeLinked (pages_of (B.content survey.old.began)) survey.old.count survey.new.list linked.new found) result
         (tops_linked (blocks_in B.content survey.old) models from survey.old.list) survey.new.list }
     ensures unread { (h : Half) → IsErrOf result (CheckRefused.ReadFault h)
         → IsUnreadSince B.tells B.moment B.content B.settled B.faults B.last_fault survey.new.began survey.new.store h }

@@ -1,4 +1,4 @@
-use Rattle.std.proofs.Common.{◌≡◌, ℕ, List, Some, None, Ok, Err, refl, ap, ◌∙◌}
+use Rattle.std.proofs.Common.{◌≡◌, ℕ, arith, List, Some, None, Ok, Err, refl, ap, ◌∙◌}
 use Rattle.std.proofs.lemmas.Result.{err_from_is_err_and}
 use Rattle.store_model.specs.Laid.{LaidVersion}
 use Rattle.store_model.specs.Laws.{pages_of}
@@ -6,9 +6,10 @@ use Rattle.store_model.specs.Chains.{chain_at, chain_from, version_at}
 use Rattle.store_check.specs.declared.chain.Chain.{Chain}
 use Rattle.store_check.specs.Before.{PagesLie}
 use Rattle.store_check.specs.Surveyed.{blocks_in}
-use Rattle.store_check.specs.Files.{AllLie, LikeVersions, chain_of}
+use Rattle.store_check.specs.Files.{AllLie, LikeVersions, chain_of, kept_by}
 use Rattle.store_check.specs.Results.{Stops}
 use Rattle.store_check.proofs.Passing.{stops_on, shows_exit, told_on, back, on}
+use Rattle.store_check.proofs.Adding.{adds_chain}
 use Rattle.store_check.proofs.ChainWalk.{first_stops, chain_is, chain_kept}
 use Rattle.store_check.proofs.chain.chain_at.Goals as goal
 
@@ -52,12 +53,15 @@ returns-clause-walk g c = λ told.
     (on b.tells b.settled s s1 first.began first.count (λ d m. PagesLie (pages_of (b.content d)) m found.0.block found.0.nodes) found.1.1) found.1.0 in
     let like = back b.tells b.settled s s1 first.began first.count (λ d m. LikeVersions (pages_of (b.content d)) m found.0.serial c.in_ok-last.last S1.0) S1.1 in
     let is = back b.tells b.settled s s1 first.began first.count
-    (λ d m. chain_from (record { content = b.content d; count = m }) c.args.object m found.0 s1.list ≡ Ok (S1.0, c.last_from.new.survey.list)) S1.2 in (
+    (λ d m. chain_from (record { content = b.content d; count = m }) c.args.object m found.0 s1.list ≡ Ok (S1.0, c.last_from.new.survey.list)) S1.2 in
+    let whole = chain_is (blocks_in b.content s) c.args.object c.args.namer c.args.n s.list found.0 s1.list found.2 ∙ is in
+    let more = (adds_chain (blocks_in b.content s) c.args.object c.args.namer c.args.n).runs s.list S1.0 c.last_from.new.survey.list whole in
+    let kept : c.saturating_sub.result ≡ kept_by S1.0 = Prim.omega (arith, c.saturating_sub.ensures, c.found.ensures.value, c.found-found.ensures.value, more) in (
       S1.0,
       (
-        ap (λ (k : ℕ). Some (let chain : Chain = record { last = c.in_ok-last.last; first = k } in chain)) (ap (λ v. v.serial) found.1.0)
-            ∙ chain_kept (pages_of (b.content s.began)) s.count found.0.serial c.in_ok-last.last S1.0 like,
+        ap (λ (k : ℕ). Some (let chain : Chain = record { last = c.in_ok-last.last; first = k; unset = None; kept = c.saturating_sub.result } in chain)) (ap (λ v. v.serial) found.1.0)
+            ∙ chain_kept (pages_of (b.content s.began)) s.count found.0.serial c.saturating_sub.result c.in_ok-last.last S1.0 like kept,
         like.lie,
       ),
-      chain_is (blocks_in b.content s) c.args.object c.args.namer c.args.n s.list found.0 s1.list found.2 ∙ is,
+      whole,
     )

@@ -1,4 +1,4 @@
-use Rattle.std.proofs.Common.{◌≡◌, List, Ok, Err, ap, subst, ◌∙◌, length, map, arith, []}
+use Rattle.std.proofs.Common.{◌≡◌, ◌≤◌, List, Ok, Err, ap, subst, ◌∙◌, length, map, arith, []}
 use Rattle.std.proofs.lemmas.Result.{err_from_is_err_and}
 use Rattle.store_model.specs.Laid.{LaidFile}
 use Rattle.store_model.specs.Laws.{pages_of}
@@ -9,10 +9,12 @@ use Rattle.store_check.specs.declared.checking.Found.{Found}
 use Rattle.store_check.specs.declared.rows.Row.{Row}
 use Rattle.store_check.specs.Rows.{row_of}
 use Rattle.store_check.specs.Files.{LikeFiles, chains_of}
+use Rattle.store_check.specs.Counts.{kept_in}
 use Rattle.store_check.specs.Checked.{LikeTable, walk_from}
 use Rattle.store_check.specs.Surveyed.{blocks_in}
 use Rattle.store_check.specs.Results.{Stops, Shows}
 use Rattle.store_check.proofs.Passing.{stops_on, shows_exit, told_on, on, back}
+use Rattle.store_check.proofs.Adding.{adds_files}
 use Rattle.store_check.proofs.WholeWalk.{rows_stop, files_stop, store_shown}
 use Rattle.store_check.proofs.checking.walk.Goals as goal
 
@@ -67,7 +69,8 @@ returns-clause-walk g c = λ told.
     let is1 = back b.tells b.settled s s1 first.began first.count
     (λ d m. files_from (record { content = b.content d; count = m }) 1 (map row_of c.as_slice-2.result.now) s1.list ≡ Ok (found.0, s2.list)) found.2 in
     let files_are = subst (λ (rs : List Row). files_from blocks 1 (map row_of rs) s1.list ≡ Ok (found.0, s2.list)) c.as_slice-2.ensures.value is1 in
-    let Q = c.link_files.ensures.walk told2 found.0 like2 in
+    let few : kept_in found.0 ≤ length s2.list = Prim.omega (arith, (adds_files blocks 1 (map row_of rows)).runs s1.list found.0 s2.list files_are) in
+    let Q = c.link_files.ensures.walk told2 found.0 like2 few in
     let q1 = back b.tells b.settled s1 s2 second.began second.count
     (λ d m. Shows (λ (f : Found) (linked : ModelLinked). (f.table ≡ c.in_ok-table.table) × (f.linked.chains.items ≡ chains_of linked.files)) c.link_files.result
     (tops_linked (record { content = b.content d; count = m }) (tops_from 1 found.0) (record { files = found.0; named = [] }) s2.list) c.link_files.new.survey.list) Q in

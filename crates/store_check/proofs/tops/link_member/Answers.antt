@@ -19,7 +19,7 @@ use Rattle.store_check.proofs.tops.link_member.Goals as goal
 -- what was found for a member, of what is kept
 told_of :
     (blocks : Blocks) (store : Store) (count : ℕ) (kept : Linked) (top : Top) (model : ModelTop) (member : MemberValue) (from : ModelLinked) (places : List ℕ) (chains : List (Option Chain)) (named : List Bool) (result : Result Prior CheckRefused)
-    → top ≡ shown_top model → LikeLinked store count kept from → chains ≡ kept.chains.items → named ≡ kept.named.items
+    → top ≡ shown_top model → LikeLinked store count places kept from → chains ≡ kept.chains.items → named ≡ kept.named.items
     → prior_in top member.object (at_object member.object chains) (at_object member.object named) ≡ result
     → PriorTold blocks model member from places (last_in member.object from.files) result
 told_of blocks store count kept top model member from places chains named result is like chains_are named_are gave =
@@ -40,7 +40,7 @@ returns-in_err-prior-clause-walk g c = λ told model from top like.
     let member : MemberValue = record { object = c.args.object; block = c.args.n } in
     let stop = c.in_err-prior.field-0.0 in
     let p = err_from_is_err_and c.from_residual.result c.from_residual.ensures.1 in
-    shows_exit (λ _ (found : ModelLinked). LikeLinked S s.count c.args.linked.now found) c.from_residual.result stop
+    shows_exit (λ _ (found : ModelLinked). LikeLinked S s.count s.list c.args.linked.now found) c.from_residual.result stop
     (member_linked blocks model member from (last_in c.args.object from.files) s.list) s.list (p.1 ∙ ap Err p.2)
     (told_of blocks S s.count c.args.linked.now c.args.top.now model member from s.list c.as_slice.result.now c.as_slice-2.result.now (Err stop) top like c.as_slice.ensures.value c.as_slice-2.ensures.value
     (sym c.prior_at.ensures.value ∙ c.in_err-prior.was))
@@ -55,9 +55,9 @@ returns-in_err-link_version-clause-walk g c = λ told model from top like.
     let p = err_from_is_err_and c.from_residual-in_err-link_version.result c.from_residual-in_err-link_version.ensures.1 in
     let of = told_of blocks S s.count c.args.linked.now c.args.top.now model member from s.list c.as_slice.result.now c.as_slice-2.result.now (Ok c.in_ok-prior.prior) top like c.as_slice.ensures.value c.as_slice-2.ensures.value
     (sym c.prior_at.ensures.value ∙ c.in_ok-prior.was) in
-    shows_exit (λ _ (found : ModelLinked). LikeLinked S s.count c.link_version.new.linked found) c.from_residual-in_err-link_version.result stop
+    shows_exit (λ _ (found : ModelLinked). LikeLinked S s.count c.link_version.new.survey.list c.link_version.new.linked found) c.from_residual-in_err-link_version.result stop
     (member_linked blocks model member from (last_in c.args.object from.files) s.list) c.link_version.new.survey.list (p.1 ∙ ap Err p.2)
-    (stops_on stop (version_linked blocks c.args.top.now.block member of.0 from.files s.list) _ (c.in_err-link_version.ensures.walk told of.0 from.files like.files of.1 of.2)
+    (stops_on stop (version_linked blocks c.args.top.now.block member of.0 from.files s.list) _ (c.in_err-link_version.ensures.walk told of.0 from.files like.files like.few of.1 of.2)
     (λ cause is. of.3
     ∙ ap (λ (t : Top). and_then (version_linked blocks t.block member of.0 from.files s.list) (named_too blocks model member from s.list)) (sym top)
     ∙ ap (λ r. and_then r (named_too blocks model member from s.list)) is))
@@ -72,10 +72,11 @@ returns-clause-walk g c = λ told model from top like.
     let of = told_of blocks S s.count c.args.linked.now c.args.top.now model member from s.list c.as_slice.result.now c.as_slice-2.result.now (Ok c.in_ok-prior.prior) top like c.as_slice.ensures.value c.as_slice-2.ensures.value
     (sym c.prior_at.ensures.value ∙ c.in_ok-prior.was) in
     let e = c.in_ok-link_version.ensures in
-    let found = e.walk told of.0 from.files like.files of.1 of.2 in (
+    let found = e.walk told of.0 from.files like.files like.few of.1 of.2 in (
       record { files = found.0; named = c.args.object ∷ from.named },
       record {
-        files = found.1;
+        files = found.1.0;
+        few = found.1.1;
         named = c.mark.ensures.marks from.named (subst (λ (marks : List Bool). AreNamed from.named marks) (sym e.named) like.named);
         size = c.mark.ensures.size ∙ ap length e.named ∙ like.size ∙ sym e.size;
       },

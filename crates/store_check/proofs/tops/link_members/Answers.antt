@@ -33,9 +33,9 @@ members-preserved g c =
           let S = pages_of (b.content s.began) in
           let f = i.far told model from top like in
           let found = e.walk (told_on b.tells b.settled s l i.began i.count told) model f.linked top
-          (on b.tells b.settled s l i.began i.count (λ d m. LikeLinked (pages_of (b.content d)) m c.members.linked f.linked) f.like) in
+          (on b.tells b.settled s l i.began i.count (λ d m. LikeLinked (pages_of (b.content d)) m l.list c.members.linked f.linked) f.like) in
           let member : MemberValue = record { object = c.member.inside.object; block = c.member.inside.block } in
-          let next = back b.tells b.settled s l i.began i.count (λ d m. LikeLinked (pages_of (b.content d)) m c.link_member.new.linked found.0) found.1 in
+          let next = back b.tells b.settled s l i.began i.count (λ d m. LikeLinked (pages_of (b.content d)) m c.link_member.new.survey.list c.link_member.new.linked found.0) found.1 in
           let is = back b.tells b.settled s l i.began i.count
           (λ d m. member_linked (record { content = b.content d; count = m }) model member f.linked (last_in member.object f.linked.files) l.list ≡ Ok (found.0, c.link_member.new.survey.list)) found.2 in
           members_on (blocks_in b.content s) model S s.count c.args.top.now.members from s.list c.members.k c.members.linked c.link_member.new.linked l.list c.link_member.new.survey.list member found.0
@@ -56,8 +56,8 @@ returns-in_err-link_member-clause-walk g c = λ told model from top like.
     let stopped = back b.tells b.settled s l i.began i.count
     (λ d m. Stops {X = ModelLinked} stop (member_linked (record { content = b.content d; count = m }) model member f.linked (last_in member.object f.linked.files) l.list))
     (c.in_err-link_member.ensures.walk (told_on b.tells b.settled s l i.began i.count told) model f.linked top
-    (on b.tells b.settled s l i.began i.count (λ d m. LikeLinked (pages_of (b.content d)) m c.members.linked f.linked) f.like)) in
-    shows_exit (λ _ (found : ModelLinked). LikeLinked S s.count c.link_member.new.linked found) c.from_residual.result stop
+    (on b.tells b.settled s l i.began i.count (λ d m. LikeLinked (pages_of (b.content d)) m l.list c.members.linked f.linked) f.like)) in
+    shows_exit (λ _ (found : ModelLinked). LikeLinked S s.count c.link_member.new.survey.list c.link_member.new.linked found) c.from_residual.result stop
     (members_linked (blocks_in b.content s) model c.args.top.now.members from s.list) c.link_member.new.survey.list (p.1 ∙ ap Err p.2)
     (stops_on stop (member_linked (blocks_in b.content s) model member f.linked (last_in member.object f.linked.files) l.list) _ stopped
     (λ cause is. members_refused (blocks_in b.content s) model S s.count c.args.top.now.members from s.list c.members.k c.members.linked l.list member cause
@@ -73,6 +73,7 @@ returns-clause-walk g c = λ told model from top like.
       record f.linked { named = model.object ∷ f.linked.named },
       record {
         files = f.like.files;
+        few = f.like.few;
         named = subst (λ (n : ℕ). AreNamed (n ∷ f.linked.named) c.mark.new.named.items) (ap (λ t. t.object) top) (c.mark.ensures.marks f.linked.named f.like.named);
         size = c.mark.ensures.size ∙ f.like.size;
       },

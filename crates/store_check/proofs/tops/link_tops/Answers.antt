@@ -38,8 +38,8 @@ tops-preserved g c =
           let f = i.far told models from tops like in
           let at = top_at c.args.tops.now models k c.index-tops-k.result tops c.tops-test.true in
           let found = e.walk (told_on b.tells b.settled s l i.began i.count told) at.model f.linked (c.index-tops-k.is ∙ at.is)
-          (on b.tells b.settled s l i.began i.count (λ d m. LikeLinked (pages_of (b.content d)) m c.tops.linked f.linked) f.like) in
-          let next = back b.tells b.settled s l i.began i.count (λ d m. LikeLinked (pages_of (b.content d)) m c.link_members.new.linked found.0) found.1 in
+          (on b.tells b.settled s l i.began i.count (λ d m. LikeLinked (pages_of (b.content d)) m l.list c.tops.linked f.linked) f.like) in
+          let next = back b.tells b.settled s l i.began i.count (λ d m. LikeLinked (pages_of (b.content d)) m c.link_members.new.survey.list c.link_members.new.linked found.0) found.1 in
           let is1 = back b.tells b.settled s l i.began i.count
           (λ d m. members_linked (record { content = b.content d; count = m }) at.model c.index-tops-k.result.members f.linked l.list ≡ Ok (found.0, after)) found.2 in
           let is = subst (λ (members : List MemberValue). members_linked (blocks_in b.content s) at.model members f.linked l.list ≡ Ok (found.0, after)) (ap (λ (t : Top). t.members) (c.index-tops-k.is ∙ at.is)) is1 in
@@ -61,9 +61,9 @@ returns-in_err-link_members-clause-walk g c = λ told models from tops like.
     let stopped = back b.tells b.settled s l i.began i.count
     (λ d m. Stops {X = ModelLinked} stop (members_linked (record { content = b.content d; count = m }) at.model c.index-tops-k.result.members f.linked l.list))
     (c.in_err-link_members.ensures.walk (told_on b.tells b.settled s l i.began i.count told) at.model f.linked (c.index-tops-k.is ∙ at.is)
-    (on b.tells b.settled s l i.began i.count (λ d m. LikeLinked (pages_of (b.content d)) m c.tops.linked f.linked) f.like)) in
+    (on b.tells b.settled s l i.began i.count (λ d m. LikeLinked (pages_of (b.content d)) m l.list c.tops.linked f.linked) f.like)) in
     let here = subst (λ (members : List MemberValue). Stops {X = ModelLinked} stop (members_linked (blocks_in b.content s) at.model members f.linked l.list)) (ap (λ (t : Top). t.members) (c.index-tops-k.is ∙ at.is)) stopped in
-    shows_exit (λ _ (found : ModelLinked). LikeLinked S s.count c.link_members.new.linked found) c.from_residual.result stop
+    shows_exit (λ _ (found : ModelLinked). LikeLinked S s.count c.link_members.new.survey.list c.link_members.new.linked found) c.from_residual.result stop
     (tops_linked (blocks_in b.content s) models from s.list) c.link_members.new.survey.list (p.1 ∙ ap Err p.2)
     (stops_on stop (members_linked (blocks_in b.content s) at.model at.model.version.members f.linked l.list) _ here
     (λ cause is. tops_stop (blocks_in b.content s) S s.count models from s.list k c.tops.linked l.list at.model cause at.here f is))
