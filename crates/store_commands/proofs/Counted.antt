@@ -22,7 +22,7 @@ use Rattle.recovery.specs.Opening.{head_of, heads_of}
 use Rattle.store_commands.specs.Counting.{blocks_of_table, counted_text, head_kept, head_versions, heads_kept, heads_live, heads_versions, used_parts}
 use Rattle.store_commands.specs.Texts.{check_text, counts_text, free_count, kept_count, live_count, version_count}
 use Rattle.store_commands.proofs.Numbering.{IsNumbered, Rises, last_serial, files_numbered}
-use Rattle.store_commands.proofs.Sums.{above_0, any_same, sums_same}
+use Rattle.store_commands.proofs.Sums.{above_0, any_same, some_above, sums_same}
 
 -- ---- which counts make the same line
 
@@ -50,7 +50,7 @@ table_same table heads state counts =
 pub text_same : (table : TableValue) (heads : List (Option Head)) (state : State) → HasCounts table heads state → check_text state ≡ counted_text table heads
 text_same table heads state counts =
     let free : table.blocks - blocks_of_table table - heads_kept heads ≡ free_count state
-    = (λ i. counts.blocks (~ i) - table_same table heads state counts i - counts.kept i) in
+    = (λ i. sym counts.blocks i - table_same table heads state counts i - counts.kept i) in
     sym (λ i. counts_text (counts.live i) (counts.versions i) (counts.kept i) (free i))
 
 -- ---- the state that is found
@@ -64,9 +64,9 @@ head_some version rest =
     let last : last_laid (version ∷ rest) ≡ Some (last_from version rest) = ap (slice_get (version ∷ rest)) one ∙ last_get version rest in
     ap (option_map (λ (v : LaidVersion). (let h : Head = record { block = v.block; first = version.serial; serial = v.serial; kept = kept_by (version ∷ rest) } in h))) last
 
-live_same : (versions : List LaidVersion) → cond (is_some (head_of versions)) 1 0 ≡ cond (nat_lt 0 (length (map version_in versions))) 1 0
+live_same : (versions : List LaidVersion) → is_some (head_of versions) ≡ nat_lt 0 (length (map version_in versions))
 live_same [] = refl
-live_same (version ∷ rest) = ap (λ (h : Option Head). cond (is_some h) 1 0) (head_some version rest)
+live_same (version ∷ rest) = ap (λ (h : Option Head). is_some h) (head_some version rest) ∙ some_above (length (map version_in rest))
 
 versions_same : (versions : List LaidVersion) → Rises versions → head_versions (head_of versions) ≡ length (map version_in versions)
 versions_same [] rises = refl
@@ -97,7 +97,7 @@ found_counts content most store places table found like =
           ∙ map-map (λ (e : EntryValue). e.generation) (λ (file : LaidFile). file.entry) store.files
           ∙ sym (map-map (λ (f : File). f.generation) file_in store.files);
       live = sums_same (λ (h : Option Head). cond (is_some h) 1 0) (λ (f : File). cond (is_live f) 1 0) (λ (file : LaidFile). head_of file.versions) file_in IsNumbered store.files
-          (λ file _. live_same file.versions) each;
+          (λ file _. ap (λ (b : Bool). cond b 1 0) (live_same file.versions)) each;
       versions = sums_same head_versions (λ (f : File). length f.versions) (λ (file : LaidFile). head_of file.versions) file_in IsNumbered store.files
           (λ file numbered. versions_same file.versions numbered.rising) each;
       kept = sums_same head_kept kept_blocks (λ (file : LaidFile). head_of file.versions) file_in IsNumbered store.files

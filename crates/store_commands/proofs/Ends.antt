@@ -12,7 +12,7 @@ use Rattle.store_model.specs.Walk.{Refused}
 use Rattle.store_model.specs.Found.{LaidStore, found, state_in, state_of}
 use Rattle.recovery.specs.Opening.{IsBad, IsFailed, IsOpened, NoWriteFailed, heads_of}
 use Rattle.recovery.specs.declared.refused.OpenRefused.{OpenRefused}
-use Rattle.recovery.specs.declared.refused.OpenRefused.TheVariants.{ReadFault, WriteFault, BadStore as NoStore, Memory as NoMemory}
+use Rattle.recovery.specs.declared.refused.OpenRefused.TheVariants.{ReadFault, WriteFault, BadStore as Unlawful, Memory as NoMemory}
 use Rattle.caps.specs.Tables.{seal_of}
 use Rattle.endings.specs.Commands.{CommandEnds}
 use Rattle.endings.specs.declared.status.Status.{Status}
@@ -65,7 +65,7 @@ refused_command tells before failed text old new sink_rose (ReadFault half) stat
     command_drive tells before failed text old new sink_rose half status (unread half refl) ends.0 ends.1
 refused_command tells before failed text old new sink_rose (WriteFault half) status unread unwritten bad ends =
     command_drive tells before failed text old new sink_rose half status (unwritten half refl) ends.0 ends.1
-refused_command tells before failed text old new sink_rose (NoStore block why) status unread unwritten bad ends =
+refused_command tells before failed text old new sink_rose (Unlawful block why) status unread unwritten bad ends =
     command_refused tells before failed text old new sink_rose (record { block = block; why = why }) status bad ends
 refused_command tells before failed text old new sink_rose NoMemory status unread unwritten bad ends =
     command_memory tells before failed text old new sink_rose status ends.0 ends.1
@@ -75,7 +75,7 @@ pub refused_untorn : (old new : Option (List ℕ)) (sink_rose : Type 0) (why : O
     → (status ≡ DriveFault → ⊥) → NoWriteFailed why
 refused_untorn old new sink_rose (ReadFault half) status ends other = tt
 refused_untorn old new sink_rose (WriteFault half) status ends other = other ends.0
-refused_untorn old new sink_rose (NoStore block why) status ends other = tt
+refused_untorn old new sink_rose (Unlawful block why) status ends other = tt
 refused_untorn old new sink_rose NoMemory status ends other = tt
 
 -- ---- a store that was opened

@@ -5,3 +5,4 @@ pub mod Shown
 pub mod Sealed
 pub mod Ends
 pub mod FormatEnds
+pub mod Loops

@@ -14,7 +14,8 @@ use Rattle.store_model.specs.Found.{LaidStore, laid_from, laid}
 use Rattle.store_model.proofs.Giving.{Gives, gives_bind, gives_check, gives_done, gives_refuse, gives_any, gives_if, gives_some}
 use Rattle.store_model.proofs.Lying.{Each}
 use Rattle.store_model.proofs.Chaining.{last_from}
-use Rattle.store_model.proofs.LastVersions.{last_get, last_is}
+use Rattle.store_model.proofs.LastVersions.{last_is}
+use Rattle.store_commands.proofs.Sums.{some_above}
 
 -- each version after this one has the next serial
 abbrev pub RisesFrom : LaidVersion → List LaidVersion → Type 0
@@ -92,12 +93,12 @@ abbrev AreNumbered : Option ℕ → List LaidVersion → Type 0
 AreNumbered first versions = (is_some first ≡ nat_lt 0 (length versions)) × Rises versions
 
 some_numbered : (block : ℕ) (versions : List LaidVersion) → SomeChain versions → AreNumbered (Some block) versions
-some_numbered block versions chain = subst (AreNumbered (Some block)) (sym chain.1.1) (refl, chain.1.2)
+some_numbered block versions chain = subst (AreNumbered (Some block)) (sym chain.1.1) (some_above (length chain.1.0), chain.1.2)
 
 gives_versions : (blocks : Blocks) (object namer : ℕ) (first : Option ℕ) → Gives (if_some first (chain_at blocks object namer)) (AreNumbered first)
 unfolding if_some
 gives_versions blocks object namer None = gives_done [] (AreNumbered None) (refl, tt)
-gives_versions blocks object namer (Some block) seen versions all e = some_numbered block versions (gives_chain blocks object namer block seen versions all e)
+gives_versions blocks object namer (Some block) = λ seen versions all e. some_numbered block versions (gives_chain blocks object namer block seen versions all e)
 
 gives_files : (blocks : Blocks) (object : ℕ) (rows : List Row) → Gives (files_from blocks object rows) (Each IsNumbered)
 unfolding files_from
@@ -123,7 +124,7 @@ longer_numbered file last next numbered is serial = of file.versions numbered.li
     of [] live rises e = absurd cc
     of (version ∷ rest) live rises e =
         let one : last ≡ last_from version rest = last_is (version ∷ rest) version rest last refl e in
-        record { live = live; rising = rises_longer version rest next rises (serial ∙ ap (λ (v : LaidVersion). v.serial + 1) one) }
+        record { live = live ∙ sym (some_above (length rest)) ∙ some_above (length (rest ++ next ∷ [])); rising = rises_longer version rest next rises (serial ∙ ap (λ (v : LaidVersion). v.serial + 1) one) }
 
 numbered_with : (place : ℕ) (last next : LaidVersion) (files : List LaidFile) → option_and_then (λ file. last_laid file.versions) (slice_get files place) ≡ Some last
     → next.serial ≡ last.serial + 1 → Each IsNumbered files → Each IsNumbered (with_version_at place next files)

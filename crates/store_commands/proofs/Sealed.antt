@@ -1,11 +1,12 @@
 -- The seal that a table has for an object is the one of its state.
-use Rattle.std.proofs.Common.{◌≡◌, ℕ, ◌-◌, ◌==◌, Bool, true, false, cond, nat_eq, nat_lt, List, [], ◌∷◌, length, map, Option, Some, None, option_map, Ok, refl, sym, ap, ◌∙◌, slice_get}
+use Rattle.std.proofs.Common.{◌≡◌, ℕ, ◌-◌, ◌==◌, Bool, true, false, cond, nat_eq, nat_lt, List, [], ◌∷◌, ◌++◌, codes, length, map, Option, Some, None, option_map, Ok, refl, sym, ap, ◌∙◌, slice_get}
 use Rattle.std.specs.FinMap as finmap
 use Rattle.std.specs.Option.{is_some, option_and_then}
 use Rattle.std.proofs.lemmas.List.{length-map}
 use Rattle.std.proofs.lemmas.Option.{slice_get-map}
 use Rattle.std.proofs.lemmas.Simd.{map-map}
-use Rattle.caps.specs.Grant.{SealValue}
+use Rattle.hex.specs.Hex.{encode_lower}
+use Rattle.caps.specs.Grant.{SealValue, capability_of}
 use Rattle.caps.specs.Tables.{entry_seal, seal_of, seal_when}
 use Rattle.page_codec.specs.Values.{EntryValue, TableValue}
 use Rattle.tree_model.specs.States.{State, File, Version, file_of}
@@ -95,3 +96,11 @@ for_sealed entry = of entry.first
 
 pub shown_seals : (table : TableValue) → HasSeals table.entries (sealed_state table).files
 shown_seals table = (λ i. map (λ entry. for_sealed entry i) table.entries) ∙ sym (map-map file_seal file_for table.entries)
+
+-- the line of a capability that was minted
+pub minted_text : (o : Option SealValue) (object rights : ℕ) (cap : List ℕ) → option_map (λ seal. capability_of seal object rights) o ≡ Some cap
+    → sealed_text object rights o ≡ codes "cap " ++ (encode_lower cap ++ 10 ∷ [])
+minted_text None object rights cap is = absurd cc
+minted_text (Some seal) object rights cap is =
+    let same : capability_of seal object rights ≡ cap = cc in
+    ap (λ (bytes : List ℕ). codes "cap " ++ (encode_lower bytes ++ 10 ∷ [])) same

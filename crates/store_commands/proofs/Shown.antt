@@ -1,5 +1,5 @@
 -- A state that has the numbers of any table and heads of as many objects: what is shown where contents are not told.
-use Rattle.std.proofs.Common.{◌≡◌, ℕ, ◌+◌, ◌-◌, cond, nat_lt, List, [], ◌∷◌, length, map, replicate, sum_by, Option, Some, None, refl, sym, ap, ◌∙◌, arith}
+use Rattle.std.proofs.Common.{◌≡◌, ℕ, Bool, ◌+◌, ◌-◌, cond, nat_lt, List, [], ◌∷◌, length, map, replicate, sum_by, Option, Some, None, refl, sym, ap, ◌∙◌, arith}
 use Rattle.std.specs.FinMap as finmap
 use Rattle.std.specs.Option.{is_some}
 use Rattle.std.proofs.lemmas.List.{length-replicate}
@@ -11,6 +11,7 @@ use Rattle.service_model.specs.Standing.{kept_blocks}
 use Rattle.version_chain.specs.declared.head.Head.{Head}
 use Rattle.store_commands.specs.Counting.{head_kept, head_versions, heads_kept, heads_live, heads_versions}
 use Rattle.store_commands.proofs.Counted.{HasCounts}
+use Rattle.store_commands.proofs.Sums.{some_above}
 
 -- a version with so many fresh paths
 abbrev version_with : ℕ → Version
@@ -47,9 +48,9 @@ sums_along f g (entry ∷ entries) (head ∷ heads) even same =
     sum_by-cons f head heads ∙ (λ i. same entry head i + sums_along f g entries heads (omega (arith, even)) same i)
     ∙ sym (sum_by-cons g (file_of entry head) (files_of entries heads))
 
-live_is : (entry : EntryValue) (head : Option Head) → cond (is_some head) 1 0 ≡ cond (is_live (file_of entry head)) 1 0
+live_is : (entry : EntryValue) (head : Option Head) → is_some head ≡ is_live (file_of entry head)
 live_is entry None = refl
-live_is entry (Some head) = refl
+live_is entry (Some head) = some_above (length (replicate (head.serial - head.first) (version_with 0)))
 
 versions_are : (entry : EntryValue) (head : Option Head) → head_versions head ≡ length (file_of entry head).versions
 versions_are entry None = refl
@@ -72,7 +73,7 @@ shown_counts table heads even =
       format = refl;
       blocks = refl;
       generations = generations_same table.entries heads even;
-      live = sums_along (λ (h : Option Head). cond (is_some h) 1 0) (λ (f : File). cond (is_live f) 1 0) table.entries heads even live_is;
+      live = sums_along (λ (h : Option Head). cond (is_some h) 1 0) (λ (f : File). cond (is_live f) 1 0) table.entries heads even (λ entry head. ap (λ (b : Bool). cond b 1 0) (live_is entry head));
       versions = sums_along head_versions (λ (f : File). length f.versions) table.entries heads even versions_are;
       kept = sums_along head_kept kept_blocks table.entries heads even kept_is;
     }

@@ -1,5 +1,5 @@
 -- Sums over lists that go side by side.
-use Rattle.std.proofs.Common.{◌≡◌, ℕ, ◌+◌, ◌==◌, ◌<◌, Bool, not, nat_lt, List, [], ◌∷◌, map, take, drop, sum_by, refl, sym, ap, ◌∙◌, ¬, arith}
+use Rattle.std.proofs.Common.{◌≡◌, ℕ, ◌+◌, ◌==◌, ◌<◌, Bool, not, nat_lt, List, [], ◌∷◌, map, take, drop, sum_by, refl, sym, ap, ◌∙◌, suc, true, arith}
 use Rattle.std.specs.Bool.{Decides}
 use Rattle.std.specs.List.{list_any}
 use Rattle.std.proofs.lemmas.Bool.Decides.{Decides-eqb, Decides-ltb, Decides-not, same_from_decides}
@@ -14,6 +14,10 @@ pub sums_same : {X Y Z : Type 0} (f : X → ℕ) (g : Y → ℕ) (h : Z → X) (
 sums_same f g h k P [] same each = refl
 sums_same f g h k P (z ∷ zs) same each =
     sum_by-cons f (h z) (map h zs) ∙ (λ i. same z each.0 i + sums_same f g h k P zs same each.1 i) ∙ sym (sum_by-cons g (k z) (map k zs))
+
+-- the number after another is above 0
+pub some_above : (n : ℕ) → true ≡ nat_lt 0 (suc n)
+some_above n = sym ((Decides-ltb 0 (suc n)).1 (omega arith))
 
 -- a number is above 0 where it is not 0
 pub above_0 : (n : ℕ) → not (n == 0) ≡ nat_lt 0 n

@@ -1,5 +1,5 @@
 // The command that checks a store and counts what is in it.
-ghost use Rattle.std.specs.Prelude.{◌≡◌, ◌⊎◌, ◌≤◌, length};
+ghost use Rattle.std.specs.Prelude.{◌≡◌, ◌⊎◌, ◌≤◌};
 ghost use Rattle.afs_base.specs.Causes.{Rose};
 ghost use Rattle.drives.specs.declared.device.Half.{Half};
 ghost use Rattle.drives.specs.Changes.{halves_seen};
@@ -27,7 +27,6 @@ use version_chain::Head;
 
 /// Prints the counts of a store that was opened, and says how the command ends.
 fn end_counted<K: Sink>(alloc: Global, table: &Table, heads: &[Option<Head>], out: &mut K) -> Status
-    requires { length heads.now ≡ length table.now.entries }
     ensures ends { DoneEnds (K.written out.old) (K.written out.new) (Rose (K.faults out.old) (K.faults out.new)) (counted_text table.now heads.now) result }
     ensures later { K.faults out.old ≤ K.faults out.new }
 {

@@ -10,8 +10,8 @@ fn are_found(alloc: Global, drives: &MemDrives, pick: Pick) -> Result<bool, Fail
         let ended = afs_check(alloc, drives.image(moment, pick)?, &mut out);
         fine = fine
             && match ended.status.code() {
-                0 => out.bytes() == b"files 1 versions 1 blocks 1 free 2\n",
-                4 => out.bytes() == b"bad store: block 0 closed\n",
+                0 => out.bytes() == b"files 1 versions 1 blocks 1 free 2\n".as_slice(),
+                4 => out.bytes() == b"bad store: block 0 closed\n".as_slice(),
                 _ => false,
             };
     }
@@ -23,14 +23,18 @@ fn each_failing_call_names_its_half_and_leaves_no_store_or_the_new_one(
     rt: HostRuntime,
 ) -> Result<(), Fail> {
     let alloc = rt.alloc();
+    // One call finds block 0 closed on half A, one on half B; five write block 1 on half B, five on half A; and so block 0.
     let table: [(u64, u64, &[u8]); 6] = [
-        (1, 3, b"drive A\n"),
-        (4, 6, b"drive B\n"),
-        (7, 13, b"drive B\n"),
-        (14, 20, b"drive A\n"),
-        (21, 25, b"drive B\n"),
-        (26, 30, b"drive A\n"),
+        (1, 1, b"drive A\n"),
+        (2, 2, b"drive B\n"),
+        (3, 7, b"drive B\n"),
+        (8, 12, b"drive A\n"),
+        (13, 17, b"drive B\n"),
+        (18, 22, b"drive A\n"),
     ];
+    let (ended, out) = format_new(alloc, 1, 4, &[], &[])?;
+    ended_so(&rt, &ended, &out, (0, b"file 1\n"));
+    assert_eq!(rt; ended.drives.now(), 22);
     for (first, last, line) in table {
         for failing in first..=last {
             let (ended, out) = format_new(alloc, 1, 4, &[failing], &[])?;

@@ -1,5 +1,4 @@
-use Rattle.std.proofs.Common.{◌≡◌, ◌++◌, List, ℕ, take, drop, sym, ◌∙◌, subst, arith}
-use Rattle.std.specs.Io.KnownBytes.{Appends}
+use Rattle.std.proofs.Common.{◌≡◌, ◌++◌, ◌∙◌, arith}
 use Rattle.script_text.specs.Front.{AppendsFront}
 use Rattle.endings.proofs.Printing.{of_err, printed_front, printed_more}
 use Rattle.endings.proofs.put.put_text.Goals as goal
