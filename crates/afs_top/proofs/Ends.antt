@@ -1,7 +1,13 @@
-use Rattle.std.proofs.Common.{◌≡◌, ◌≢◌, ◌⊎◌, inl, inr, ℕ, ◌+◌, ◌≤◌, Bool, true, false, List, [], ◌∷◌, ◌++◌, length, refl, sym, subst, ◌∙◌, Option, Some, None, IfSome, All, if◌then◌else◌, arith}
+use Rattle.std.proofs.Common.{◌≡◌, ◌⊎◌, inl, inr, ℕ, ◌+◌, ◌≤◌, Bool, true, false, List, [], ◌∷◌, ◌++◌, length, refl, sym, subst, ap, ◌∙◌, Option, Some, None, Result, Ok, Err, IfSome, All, arith}
 use Rattle.std.specs.Io.KnownBytes.{Appends}
 use Rattle.drives.specs.declared.device.Half.{Half}
 use Rattle.drives.specs.Faults.{HasFailed}
+use Rattle.endings.specs.Noted.{IsNothingNoted}
+use Rattle.endings.specs.Printing.{HaltEnds, Prints}
+use Rattle.endings.specs.Status.{IsDone}
+use Rattle.endings.specs.Texts.{bad_store_text, drive_text, memory_text}
+use Rattle.endings.specs.declared.status.Status.{Status}
+use Rattle.endings.specs.declared.status.Status.TheVariants.{Success, Usage, BadScript, DriveFault, BadStore, SinkFault, SourceFault, Memory}
 use Rattle.script_text.specs.Front.{AppendsFront}
 use Rattle.service_model.specs.declared.journal.Journal.{Journal}
 use Rattle.service_model.specs.declared.journal.Entry.{Entry}
@@ -9,95 +15,50 @@ use Rattle.service_model.specs.declared.journal.What.TheVariants.{Committed}
 use Rattle.service_model.specs.Legal.{Reaches}
 use Rattle.service_model.specs.Order.{IsInOrder}
 use Rattle.service_model.specs.Print.{answers_printed}
-use Rattle.service_model.specs.Standing.{Standing, start}
+use Rattle.service_model.specs.Standing.{Scripts, Standing, start}
+use Rattle.store_model.specs.Walk.{Refused}
 use Rattle.tree_model.specs.declared.step.Step.{Step}
-use Rattle.tree_model.proofs.Paths.{told}
-use Rattle.afs_top.specs.declared.status.Status.{Status}
-use Rattle.afs_top.specs.declared.status.Status.TheVariants.{Success, Usage, BadScript, DriveFault, BadStore, SinkFault, SourceFault, Memory}
+use Rattle.tree_model.specs.States.{State}
+use Rattle.tree_model.specs.Trees.{single, tree_after}
 use Rattle.afs_top.specs.declared.stop.Stop.TheVariants.{Source, Script, Store}
-use Rattle.afs_top.specs.Cut.{IsCutOff, IsUnlinked}
-use Rattle.afs_top.specs.Course.{entry, named, IsFront, final_standing, held_entries, held_standing, is_written_by, order_of, scripts_of, second_state, step_answers, whole_answers, whole_entries}
-use Rattle.afs_top.specs.Faults.{Prints}
-use Rattle.afs_top.specs.Found.{IsFound, content}
-use Rattle.afs_top.specs.NewState.{new_state}
-use Rattle.afs_top.specs.NewStore.{IsNew}
-use Rattle.afs_top.specs.Output.{drive_text, files_lines, memory_text, reply_lines, stop_text}
-use Rattle.afs_top.specs.Play.{EndsAs, FinishEnds, HaltEnds, HasScript, HoldsScript, HoldsUndoubted, IsDoubt, IsBeforeOpening, IsDone, IsRun, IsStored, NothingFailed}
+use Rattle.afs_top.specs.Cut.{IsCutOff}
+use Rattle.afs_top.specs.Course.{entry, named, IsFront, held_entries, is_written_by, order_of, scripts_of, step_answers, whole_answers, whole_entries}
+use Rattle.afs_top.specs.Output.{files_lines, reply_lines, stop_text}
+use Rattle.afs_top.specs.Play.{EndsAs, FinishEnds, HasScript, HoldsScript, HoldsUndoubted, IsDoubt, IsBeforeOpening, IsRefused, IsRun, IsStored, NothingFailed}
 use Rattle.afs_top.specs.Script.{IsRootStep, IsScript}
-use Rattle.afs_top.specs.Versions.{HasRun}
+use Rattle.afs_top.specs.Served.{committed_state, served_state}
+use Rattle.afs_top.proofs.Forms.{final_is, served_is}
 use Rattle.afs_top.proofs.Journal.{commit_lawful, commit_line, written_lawful, front_reaches, held_reaches, step_answers-length, whole_complete, whole_ordered}
 use Rattle.afs_top.proofs.Lines.{answers_text, final_text, lines_printed}
-use Rattle.afs_top.proofs.RootTree.{root_tree}
-use Rattle.afs_top.proofs.StoreLemmas.{new_found, second_found}
+use Rattle.afs_top.proofs.Standings.{final_standing, held_standing, plain_state}
 use Rattle.afs_top.proofs.Whole.{whole_reaches}
 
 -- How the parts of a run make a way to end.
 
--- the state at the end is found where something was written, and where nothing was
-stored_by : (blocks : ℕ) (before after : Half → List ℕ) (steps : List Step) (written : Bool) → All IsRootStep steps → IsNew blocks before
-    → HasRun written before after steps → written ≡ true ⊎ written ≡ false
-    → IsFound blocks (content after) (if written then second_state steps else new_state)
-stored_by blocks before after steps true root new run w =
-    second_found blocks before after run.0 steps new (run.1 refl) (root_tree steps root)
-    (λ h. (run.2.second h, run.2.first h, run.2.table h, run.2.other_file h))
-stored_by blocks before after steps false root new run w =
-    let same : before ≡ after = λ i h. sym (run.2 h) i in
-    let F : (Half → List ℕ) → Type 0 = λ halves. IsFound blocks (content halves) new_state in
-    subst F same (new_found blocks before new)
+-- a journal over the state written out is one over that of the store that is served
+as_served : (sc : Scripts) (es : List Entry) (s : Standing) → Reaches plain_state sc es s → Reaches served_state sc es s
+as_served sc es s r = let F : State → Type 0 = λ o. Reaches o sc es s in subst F served_is r
 
--- the halves of a finished run
-run_stored : (blocks : ℕ) (before after : Half → List ℕ) (steps : List Step) (at : ℕ) → All IsRootStep steps → IsNew blocks before
-    → HasRun (is_written_by steps) before after steps → IsStored blocks before after (final_standing steps at)
-run_stored blocks before after steps at root new run = record {
-  opening = new_found blocks before new;
-  closing = stored_by blocks before after steps (is_written_by steps) root new run (told (is_written_by steps));
-}
+-- what is found of a finished run
+run_stored : (before after : Result State Refused) (steps : List Step) (at : ℕ) → All IsRootStep steps → before ≡ Ok served_state
+    → after ≡ Ok (committed_state (is_written_by steps) (tree_after single steps)) → IsStored before after (final_standing steps at)
+run_stored before after steps at root opening closing = record { opening = opening; closing = closing ∙ ap (λ s. Ok s) (final_is steps at root) }
 
 -- the journal of a finished run
 run_made : (journal : Journal) (steps : List Step) (at : ℕ) → All IsRootStep steps → length steps ≤ 128
     → journal.entries.items ≡ whole_entries (is_written_by steps) (length steps) at → journal.doubt ≡ None → IsRun journal steps (final_standing steps at)
 run_made journal steps at root few entries sure =
-    let R : List Entry → Type 0 = λ es. Reaches new_state (scripts_of steps) es (final_standing steps at) in
+    let R : List Entry → Type 0 = λ es. Reaches served_state (scripts_of steps) es (final_standing steps at) in
     let O : List Entry → Type 0 = λ es. IsInOrder (order_of steps) es in
     record {
-      reaches = subst R (sym entries) (whole_reaches steps at root few);
+      reaches = subst R (sym entries) (as_served (scripts_of steps) (whole_entries (is_written_by steps) (length steps) at) (final_standing steps at) (whole_reaches steps at root few));
       complete = whole_complete steps at;
       ordered = subst O (sym entries) (whole_ordered (is_written_by steps) steps at);
       sure = sure;
     }
 
--- the store is the same where the halves are
-stored_earlier : (blocks blocks' : ℕ) (before before' : Half → List ℕ) {after : Half → List ℕ} (s : Standing) → blocks ≡ blocks' → ((h : Half) → before h ≡ before' h)
-    → IsStored blocks before after s → IsStored blocks' before' after s
-stored_earlier blocks blocks' before before' {after} s size same stored =
-    let halves : before ≡ before' = λ i h. same h i in
-    let B : ℕ → Type 0 = λ n. IsStored n before after s in
-    let F : (Half → List ℕ) → Type 0 = λ x. IsStored blocks' x after s in
-    subst F halves (subst B size stored)
-
-new_later : (blocks blocks' : ℕ) (before before' : Half → List ℕ) → blocks ≡ blocks' → ((h : Half) → before h ≡ before' h) → IsNew blocks' before' → IsNew blocks before
-new_later blocks blocks' before before' size same fresh =
-    let halves : before' ≡ before = λ i h. sym (same h) i in
-    let B : ℕ → Type 0 = λ n. IsNew n before' in
-    let F : (Half → List ℕ) → Type 0 = λ x. IsNew blocks x in
-    subst F halves (subst B (sym size) fresh)
-
--- the new store stays where no block but that of the second version changes
-new_kept : (blocks : ℕ) (before after : Half → List ℕ) → IsUnlinked before after → IsNew blocks before → IsNew blocks after
-new_kept blocks before after unlinked new =
-    let Apart : ℕ → ℕ → Type 0 = λ m n. m ≢ n in
-    let zero_three : Apart 0 3 = omega arith in
-    let behind : (i : ℕ) → i ≤ 2 → i ≢ 3 = λ i few is. omega (arith, few, is) in
-    record {
-      room = new.room;
-      each = λ h. record {
-        table = unlinked h 0 zero_three ∙ (new.each h).table;
-        pages = λ i low high. unlinked h i (behind i high) ∙ (new.each h).pages i low high;
-      };
-    }
-
 -- what a commit that was cut off leaves in doubt
-cut_doubt : (tells : Type 0) (before after : Half → List ℕ) (steps : List Step) (at : ℕ) (doubt : Option Entry) → All IsRootStep steps → is_written_by steps ≡ true
+cut_doubt : (tells : Type 0) (before after : Result State Refused) (steps : List Step) (at : ℕ) (doubt : Option Entry) → All IsRootStep steps → is_written_by steps ≡ true
     → IsCutOff tells before after (length steps + 2) at None doubt → IsDoubt steps (held_standing steps) doubt
 cut_doubt tells before after steps at doubt root written (inl cut) =
     let D : Option Entry → Type 0 = λ d. IsDoubt steps (held_standing steps) d in
@@ -106,11 +67,15 @@ cut_doubt tells before after steps at doubt root written (inr cut) =
     let D : Option Entry → Type 0 = λ d. IsDoubt steps (held_standing steps) d in
     subst D (sym cut) (commit_lawful steps (held_standing steps) (Committed (named 2 ∷ []) at) (commit_line steps) (written_lawful steps at root written), refl)
 
--- and what the halves then hold where nothing is
-cut_holds : (tells : Type 0) (blocks : ℕ) (before after : Half → List ℕ) (line at : ℕ) (doubt : Option Entry)
-    → IsCutOff tells before after line at None doubt → tells → HoldsUndoubted blocks before after doubt new_state
-cut_holds tells blocks before after line at doubt (inl cut) t none new = new_found blocks after (new_kept blocks before after (cut.1 t) new)
-cut_holds tells blocks before after line at doubt (inr cut) t none new =
+-- what is found where that is what was found, by a journal that made no version
+undoubted : (before after : Result State Refused) (doubt : Option Entry) → after ≡ before → HoldsUndoubted before after doubt plain_state
+undoubted before after doubt same none = (same, λ opening. same ∙ opening ∙ ap (λ s. Ok s) (sym served_is))
+
+-- and what is found where nothing is in doubt
+cut_holds : (tells : Type 0) (before after : Result State Refused) (line at : ℕ) (doubt : Option Entry)
+    → IsCutOff tells before after line at None doubt → tells → HoldsUndoubted before after doubt plain_state
+cut_holds tells before after line at doubt (inl cut) t none = undoubted before after doubt (cut.1 t) none
+cut_holds tells before after line at doubt (inr cut) t none =
     let both : Some (entry line (Committed (named 2 ∷ []) at)) ≡ None = sym cut ∙ none in
     absurd (cc both)
 
@@ -120,21 +85,21 @@ none_doubt steps s doubt none =
     let D : Option Entry → Type 0 = λ d. IsDoubt steps s d in
     subst D (sym none) tt
 
-module _ (tells : Type 0) (blocks : ℕ) (before after : Half → List ℕ) (failed : Half → Type 0) (left : Option (List ℕ)) (source_rose : Type 0)
+module _ (tells rest : Type 0) (before after : Result State Refused) (failed : Half → Type 0) (left : Option (List ℕ)) (source_rose : Type 0)
     (old new : Option (List ℕ)) (sink_rose : Type 0) (journal : Journal) where
   -- a finished run, printed or not
   pub ends_finish : (steps : List Step) (at : ℕ) (status : Status) → HasScript left steps → All IsRootStep steps → length steps ≤ 128
-      → (tells → IsNew blocks before) → (tells → HasRun (is_written_by steps) before after steps)
+      → (tells → before ≡ Ok served_state) → (tells → after ≡ Ok (committed_state (is_written_by steps) (tree_after single steps)))
       → journal.entries.items ≡ whole_entries (is_written_by steps) (length steps) at → journal.doubt ≡ None
       → FinishEnds old new sink_rose (reply_lines 1 (whole_answers (is_written_by steps) steps) ++ files_lines (is_written_by steps)) status
-      → EndsAs tells blocks before after failed left source_rose old new sink_rose journal status
+      → EndsAs tells rest before after failed left source_rose old new sink_rose journal status
   ends_finish steps at Success script root few fresh run entries sure ends =
       let A : List ℕ → Type 0 = λ text. Appends old new text in (
         steps,
         final_standing steps at,
         script,
         run_made journal steps at root few entries sure,
-        (λ t. run_stored blocks before after steps at root (fresh t) (run t)),
+        (λ t. run_stored before after steps at root (fresh t) (run t)),
         subst A (sym (final_text steps at)) ends,
       )
   ends_finish steps at Usage script root few fresh run entries sure ends = ends
@@ -147,7 +112,7 @@ module _ (tells : Type 0) (blocks : ℕ) (before after : Half → List ℕ) (fai
         final_standing steps at,
         script,
         run_made journal steps at root few entries sure,
-        (λ t. run_stored blocks before after steps at root (fresh t) (run t)),
+        (λ t. run_stored before after steps at root (fresh t) (run t)),
         subst A (sym (final_text steps at)) ends.0,
         ends.1,
       )
@@ -159,39 +124,40 @@ module _ (tells : Type 0) (blocks : ℕ) (before after : Half → List ℕ) (fai
   pub ends_drive : (steps : List Step) (half : Half) (at : ℕ) (status : Status) → HasScript left steps → All IsRootStep steps → length steps ≤ 128 → failed half
       → is_written_by steps ≡ true → journal.entries.items ≡ held_entries (length steps) → IsCutOff tells before after (length steps + 2) at None journal.doubt
       → HaltEnds old new sink_rose (reply_lines 1 (step_answers steps) ++ drive_text half) DriveFault status
-      → EndsAs tells blocks before after failed left source_rose old new sink_rose journal status
+      → EndsAs tells rest before after failed left source_rose old new sink_rose journal status
   ends_drive steps half at status script root few broken written entries cut (inl ends) =
-      let R : List Entry → Type 0 = λ es. Reaches new_state (scripts_of steps) es (held_standing steps) in
+      let R : List Entry → Type 0 = λ es. Reaches served_state (scripts_of steps) es (held_standing steps) in
       let P : List ℕ → Type 0 = λ text. Prints old new sink_rose (text ++ drive_text half) in
       let count : length (step_answers steps) ≤ length steps + 2 = omega (arith, step_answers-length steps) in
       let text : reply_lines 1 (step_answers steps) ≡ answers_printed (scripts_of steps) (held_standing steps)
       = sym (answers_text steps (held_standing steps) _ refl ∙ lines_printed steps (step_answers steps) count) in
-      let E : Status → Type 0 = λ s. EndsAs tells blocks before after failed left source_rose old new sink_rose journal s in
+      let E : Status → Type 0 = λ s. EndsAs tells rest before after failed left source_rose old new sink_rose journal s in
       subst E (sym ends.0) (
         half,
         steps,
         held_standing steps,
         broken,
         script,
-        subst R (sym entries) (held_reaches steps root few written),
+        subst R (sym entries) (as_served (scripts_of steps) (held_entries (length steps)) (held_standing steps) (held_reaches steps root few written)),
         cut_doubt tells before after steps at journal.doubt root written cut,
-        cut_holds tells blocks before after (length steps + 2) at journal.doubt cut,
+        (λ t how. cut_holds tells before after (length steps + 2) at journal.doubt cut t),
         subst P text ends.1,
       )
   ends_drive steps half at status script root few broken written entries cut (inr ends) =
-      let R : List Entry → Type 0 = λ es. Reaches new_state (scripts_of steps) es (held_standing steps) in
-      let E : Status → Type 0 = λ s. EndsAs tells blocks before after failed left source_rose old new sink_rose journal s in
+      let R : List Entry → Type 0 = λ es. Reaches served_state (scripts_of steps) es (held_standing steps) in
+      let E : Status → Type 0 = λ s. EndsAs tells rest before after failed left source_rose old new sink_rose journal s in
       subst E (sym ends.0)
-      (steps, held_standing steps, inr script, subst R (sym entries) (held_reaches steps root few written), cut_doubt tells before after steps at journal.doubt root written cut, ends.1)
+      (steps, held_standing steps, inr script, subst R (sym entries) (as_served (scripts_of steps) (held_entries (length steps)) (held_standing steps) (held_reaches steps root few written)), cut_doubt tells before after steps at journal.doubt root written cut, ends.1)
 
   -- a run that ended for want of memory
   pub ends_memory : (steps : List Step) (at : ℕ) (status : Status) → HasScript left steps → All IsRootStep steps → length steps ≤ 128
       → IsFront journal.entries.items (whole_entries (is_written_by steps) (length steps) at) → journal.doubt ≡ None
       → HaltEnds old new sink_rose memory_text Memory status
-      → EndsAs tells blocks before after failed left source_rose old new sink_rose journal status
+      → EndsAs tells rest before after failed left source_rose old new sink_rose journal status
   ends_memory steps at status script root few front sure ends =
-      let reached = front_reaches new_state (scripts_of steps) journal.entries.items (whole_entries (is_written_by steps) (length steps) at) (final_standing steps at) front (whole_reaches steps at root few) in
-      let E : Status → Type 0 = λ s. EndsAs tells blocks before after failed left source_rose old new sink_rose journal s in
+      let reached = front_reaches served_state (scripts_of steps) journal.entries.items (whole_entries (is_written_by steps) (length steps) at) (final_standing steps at) front
+      (as_served (scripts_of steps) (whole_entries (is_written_by steps) (length steps) at) (final_standing steps at) (whole_reaches steps at root few)) in
+      let E : Status → Type 0 = λ s. EndsAs tells rest before after failed left source_rose old new sink_rose journal s in
       elim ends [
         | inl same ↦ subst E (sym same.0) (steps, reached.0, inr script, reached.1, none_doubt steps reached.0 journal.doubt sure, same.1)
         | inr same ↦ subst E (sym same.0) (steps, reached.0, inr script, reached.1, none_doubt steps reached.0 journal.doubt sure, same.1)
@@ -199,45 +165,75 @@ module _ (tells : Type 0) (blocks : ℕ) (before after : Half → List ℕ) (fai
 
   -- nothing was noted, and memory ran out
   pub ends_empty : (steps : List Step) (status : Status) → journal.entries.items ≡ [] → journal.doubt ≡ None → status ≡ Memory → Prints old new sink_rose memory_text
-      → EndsAs tells blocks before after failed left source_rose old new sink_rose journal status
+      → EndsAs tells rest before after failed left source_rose old new sink_rose journal status
   ends_empty steps status none sure is prints =
-      let R : List Entry → Type 0 = λ es. Reaches new_state (scripts_of steps) es (start new_state (scripts_of steps)) in
-      let E : Status → Type 0 = λ s. EndsAs tells blocks before after failed left source_rose old new sink_rose journal s in
-      let reached : Reaches new_state (scripts_of steps) [] (start new_state (scripts_of steps)) = record { legal = tt; leads = refl } in
-      subst E (sym is) (steps, start new_state (scripts_of steps), inl none, subst R (sym none) reached, none_doubt steps (start new_state (scripts_of steps)) journal.doubt sure, prints)
+      let R : List Entry → Type 0 = λ es. Reaches served_state (scripts_of steps) es (start served_state (scripts_of steps)) in
+      let E : Status → Type 0 = λ s. EndsAs tells rest before after failed left source_rose old new sink_rose journal s in
+      let reached : Reaches served_state (scripts_of steps) [] (start served_state (scripts_of steps)) = record { legal = tt; leads = refl } in
+      subst E (sym is) (steps, start served_state (scripts_of steps), inl none, subst R (sym none) reached, none_doubt steps (start served_state (scripts_of steps)) journal.doubt sure, prints)
 
   -- and it said so
   pub ends_stopped : (steps : List Step) (status : Status) → journal.entries.items ≡ [] → journal.doubt ≡ None → HaltEnds old new sink_rose memory_text Memory status
-      → EndsAs tells blocks before after failed left source_rose old new sink_rose journal status
+      → EndsAs tells rest before after failed left source_rose old new sink_rose journal status
   ends_stopped steps status none sure (inl ends) = ends_empty steps status none sure ends.0 ends.1
   ends_stopped steps status none sure (inr ends) = ends_empty steps status none sure ends.0 ends.1
 
-  -- the halves hold no new store
-  pub ends_store : (steps : List Step) (status : Status) → HasScript left steps → (tells → IsNew blocks before → ⊥) → (tells → (h : Half) → after h ≡ before h)
+  -- nothing was noted yet
+  empty_reached : (steps : List Step) → journal.entries.items ≡ [] → Reaches served_state (scripts_of steps) journal.entries.items (start served_state (scripts_of steps))
+  empty_reached steps none =
+      let R : List Entry → Type 0 = λ es. Reaches served_state (scripts_of steps) es (start served_state (scripts_of steps)) in
+      let reached : Reaches served_state (scripts_of steps) [] (start served_state (scripts_of steps)) = record { legal = tt; leads = refl } in
+      subst R (sym none) reached
+
+  -- the halves hold a store, but not the one that is served
+  pub ends_store : (steps : List Step) (status : Status) → HasScript left steps
+      → (tells → ((state : State) × (before ≡ Ok state)) × (before ≡ Ok served_state → ⊥)) → (tells → after ≡ before)
       → journal.entries.items ≡ [] → journal.doubt ≡ None → HaltEnds old new sink_rose (stop_text [] Store) BadStore status
-      → EndsAs tells blocks before after failed left source_rose old new sink_rose journal status
+      → EndsAs tells rest before after failed left source_rose old new sink_rose journal status
   ends_store steps status script stale same none sure (inl ends) =
-      let E : Status → Type 0 = λ s. EndsAs tells blocks before after failed left source_rose old new sink_rose journal s in
-      subst E (sym ends.0) (steps, script, stale, same, none, sure, ends.1)
+      let E : Status → Type 0 = λ s. EndsAs tells rest before after failed left source_rose old new sink_rose journal s in
+      subst E (sym ends.0) (steps, start served_state (scripts_of steps), script, same, inl (stale, ends.1), empty_reached steps none, sure, inl none)
   ends_store steps status script stale same none sure (inr ends) = ends_empty steps status none sure ends.0 ends.1
+
+  -- the halves hold no store
+  pub ends_bad : (steps : List Step) (cause : Refused) (status : Status) → HasScript left steps → (tells → before ≡ Err cause) → (tells → after ≡ before)
+      → journal.entries.items ≡ [] → journal.doubt ≡ None → HaltEnds old new sink_rose (bad_store_text cause) BadStore status
+      → EndsAs tells rest before after failed left source_rose old new sink_rose journal status
+  ends_bad steps cause status script bad same none sure (inl ends) =
+      let E : Status → Type 0 = λ s. EndsAs tells rest before after failed left source_rose old new sink_rose journal s in
+      subst E (sym ends.0) (steps, start served_state (scripts_of steps), script, same, inr (cause, bad, ends.1), empty_reached steps none, sure, inl none)
+  ends_bad steps cause status script bad same none sure (inr ends) = ends_empty steps status none sure ends.0 ends.1
+
+  -- a block changed under the call, whose contents are not told
+  pub ends_changed : (steps : List Step) (status : Status) → HasScript left steps → All IsRootStep steps → length steps ≤ 128 → (tells → ⊥)
+      → is_written_by steps ≡ true → journal.entries.items ≡ held_entries (length steps) → journal.doubt ≡ None
+      → HaltEnds old new sink_rose (stop_text [] Store) BadStore status
+      → EndsAs tells rest before after failed left source_rose old new sink_rose journal status
+  ends_changed steps status script root few untold written entries sure ends =
+      let R : List Entry → Type 0 = λ es. Reaches served_state (scripts_of steps) es (held_standing steps) in
+      let E : Status → Type 0 = λ s. EndsAs tells rest before after failed left source_rose old new sink_rose journal s in
+      let reached = subst R (sym entries) (as_served (scripts_of steps) (held_entries (length steps)) (held_standing steps) (held_reaches steps root few written)) in
+      elim ends [
+        | inl end ↦ subst E (sym end.0)
+            (steps, held_standing steps, script, (λ t. absurd (untold t)), inl ((λ t. absurd (untold t)), end.1), reached, sure, inr untold)
+        | inr end ↦ subst E (sym end.0) (steps, held_standing steps, inr script, reached, none_doubt steps (held_standing steps) journal.doubt sure, end.1)
+      ]
 
   -- a half failed before anything was noted
   pub ends_unopened : (steps : List Step) (half : Half) (status : Status) → HasScript left steps → failed half
-      → (tells → (h : Half) → after h ≡ before h) → journal.entries.items ≡ [] → journal.doubt ≡ None → HaltEnds old new sink_rose (drive_text half) DriveFault status
-      → EndsAs tells blocks before after failed left source_rose old new sink_rose journal status
+      → (tells → rest → after ≡ before) → journal.entries.items ≡ [] → journal.doubt ≡ None → HaltEnds old new sink_rose (drive_text half) DriveFault status
+      → EndsAs tells rest before after failed left source_rose old new sink_rose journal status
   ends_unopened steps half status script broken same none sure (inl ends) =
-      let R : List Entry → Type 0 = λ es. Reaches new_state (scripts_of steps) es (start new_state (scripts_of steps)) in
-      let E : Status → Type 0 = λ s. EndsAs tells blocks before after failed left source_rose old new sink_rose journal s in
-      let reached : Reaches new_state (scripts_of steps) [] (start new_state (scripts_of steps)) = record { legal = tt; leads = refl } in
+      let E : Status → Type 0 = λ s. EndsAs tells rest before after failed left source_rose old new sink_rose journal s in
       subst E (sym ends.0) (
         half,
         steps,
-        start new_state (scripts_of steps),
+        start served_state (scripts_of steps),
         broken,
         script,
-        subst R (sym none) reached,
-        none_doubt steps (start new_state (scripts_of steps)) journal.doubt sure,
-        (λ t undoubted fresh. new_found blocks after (new_later blocks blocks after before refl (same t) fresh)),
+        empty_reached steps none,
+        none_doubt steps (start served_state (scripts_of steps)) journal.doubt sure,
+        (λ t how undoubted. elim how [ inl r ↦ (same t r, λ opening. same t r ∙ opening) | inr some ↦ absurd (some none) ]),
         ends.1,
       )
   ends_unopened steps half status script broken same none sure (inr ends) = ends_empty steps status none sure ends.0 ends.1
@@ -245,31 +241,31 @@ module _ (tells : Type 0) (blocks : ℕ) (before after : Half → List ℕ) (fai
   -- the script is not in shape
   pub ends_script : (status : Status) → IfSome left (λ all. (steps : List Step) → IsScript all steps → ⊥)
       → journal.entries.items ≡ [] → journal.doubt ≡ None → HaltEnds old new sink_rose (stop_text [] Script) BadScript status
-      → EndsAs tells blocks before after failed left source_rose old new sink_rose journal status
+      → EndsAs tells rest before after failed left source_rose old new sink_rose journal status
   ends_script status shapeless none sure (inl ends) =
-      let E : Status → Type 0 = λ s. EndsAs tells blocks before after failed left source_rose old new sink_rose journal s in
-      subst E (sym ends.0) (shapeless, none, sure, ends.1)
+      let E : Status → Type 0 = λ s. EndsAs tells rest before after failed left source_rose old new sink_rose journal s in
+      subst E (sym ends.0) (shapeless, record { entries = none; doubt = sure }, ends.1)
   ends_script status shapeless none sure (inr ends) = ends_empty [] status none sure ends.0 ends.1
 
   -- the source failed
   pub ends_source : (status : Status) → source_rose → journal.entries.items ≡ [] → journal.doubt ≡ None
       → HaltEnds old new sink_rose (stop_text [] Source) SourceFault status
-      → EndsAs tells blocks before after failed left source_rose old new sink_rose journal status
+      → EndsAs tells rest before after failed left source_rose old new sink_rose journal status
   ends_source status rose none sure (inl ends) =
-      let E : Status → Type 0 = λ s. EndsAs tells blocks before after failed left source_rose old new sink_rose journal s in
-      subst E (sym ends.0) (rose, none, sure, ends.1)
+      let E : Status → Type 0 = λ s. EndsAs tells rest before after failed left source_rose old new sink_rose journal s in
+      subst E (sym ends.0) (rose, record { entries = none; doubt = sure }, ends.1)
   ends_source status rose none sure (inr ends) = ends_empty [] status none sure ends.0 ends.1
 
   -- an end that does not rest on the source's count, seen from a later beginning
-  pub ends_earlier : (blocks' : ℕ) (before' : Half → List ℕ) (failed' : Half → Type 0) (source_rose' : Type 0) (status : Status)
-      → blocks ≡ blocks' → (tells → (h : Half) → before h ≡ before' h) → ((h : Half) → failed h → failed' h) → (source_rose → source_rose')
-      → EndsAs tells blocks before after failed left source_rose old new sink_rose journal status
-      → EndsAs tells blocks' before' after failed' left source_rose' old new sink_rose journal status
-  ends_earlier blocks' before' failed' source_rose' Success size same broken rose ends =
-      (ends.0, ends.1, ends.2, ends.3, (λ t. stored_earlier blocks blocks' before before' ends.1 size (same t) (ends.4 t)), ends.5)
-  ends_earlier blocks' before' failed' source_rose' Usage size same broken rose ends = ends
-  ends_earlier blocks' before' failed' source_rose' BadScript size same broken rose ends = ends
-  ends_earlier blocks' before' failed' source_rose' DriveFault size same broken rose ends = (
+  pub ends_earlier : (rest' : Type 0) (before' : Result State Refused) (failed' : Half → Type 0) (source_rose' : Type 0) (status : Status)
+      → (rest' → rest) → (tells → before ≡ before') → ((h : Half) → failed h → failed' h) → (source_rose → source_rose')
+      → EndsAs tells rest before after failed left source_rose old new sink_rose journal status
+      → EndsAs tells rest' before' after failed' left source_rose' old new sink_rose journal status
+  ends_earlier rest' before' failed' source_rose' Success later same broken rose ends =
+      (ends.0, ends.1, ends.2, ends.3, (λ t. record { opening = sym (same t) ∙ (ends.4 t).opening; closing = (ends.4 t).closing }), ends.5)
+  ends_earlier rest' before' failed' source_rose' Usage later same broken rose ends = ends
+  ends_earlier rest' before' failed' source_rose' BadScript later same broken rose ends = ends
+  ends_earlier rest' before' failed' source_rose' DriveFault later same broken rose ends = (
     ends.0,
     ends.1,
     ends.2,
@@ -277,16 +273,28 @@ module _ (tells : Type 0) (blocks : ℕ) (before after : Half → List ℕ) (fai
     ends.4,
     ends.5,
     ends.6,
-    (λ t none fresh. let B : ℕ → Type 0 = λ n. IsFound n (content after) ends.2.state in
-        subst B size (ends.7 t none (new_later blocks blocks' before before' size (same t) fresh))),
+    (λ t how none.
+        let h = ends.7 t (elim how [ inl r ↦ inl (later r) | inr some ↦ inr some ]) none in
+        (h.0 ∙ same t, λ opening. h.1 (same t ∙ opening))),
     ends.8,
   )
-  ends_earlier blocks' before' failed' source_rose' BadStore size same broken rose ends =
-      (ends.0, ends.1, (λ t fresh. ends.2 t (new_later blocks blocks' before before' size (same t) fresh)), (λ t h. ends.3 t h ∙ same t h), ends.4, ends.5, ends.6)
-  ends_earlier blocks' before' failed' source_rose' SinkFault size same broken rose ends =
-      (ends.0, ends.1, ends.2, ends.3, (λ t. stored_earlier blocks blocks' before before' ends.1 size (same t) (ends.4 t)), ends.5, ends.6)
-  ends_earlier blocks' before' failed' source_rose' SourceFault size same broken rose ends = (rose ends.0, ends.1, ends.2, ends.3)
-  ends_earlier blocks' before' failed' source_rose' Memory size same broken rose ends = ends
+  ends_earlier rest' before' failed' source_rose' BadStore later same broken rose ends = (
+    ends.0,
+    ends.1,
+    ends.2,
+    (λ t. ends.3 t ∙ same t),
+    elim ends.4 [
+      | inl x ↦ inl ((λ t. (((x.0 t).0.0, sym (same t) ∙ (x.0 t).0.1), λ opening. (x.0 t).1 (same t ∙ opening))), x.1)
+      | inr x ↦ inr (x.0, (λ t. sym (same t) ∙ x.1 t), x.2)
+    ],
+    ends.5,
+    ends.6,
+    ends.7,
+  )
+  ends_earlier rest' before' failed' source_rose' SinkFault later same broken rose ends =
+      (ends.0, ends.1, ends.2, ends.3, (λ t. record { opening = sym (same t) ∙ (ends.4 t).opening; closing = (ends.4 t).closing }), ends.5, ends.6)
+  ends_earlier rest' before' failed' source_rose' SourceFault later same broken rose ends = (rose ends.0, ends.1, ends.2)
+  ends_earlier rest' before' failed' source_rose' Memory later same broken rose ends = ends
 
 -- no text of the source is a script, but one is
 not_both : (left : Option (List ℕ)) → IfSome left (λ all. (steps : List Step) → IsScript all steps → ⊥) → HoldsScript left → ⊥
@@ -294,17 +302,20 @@ not_both None none shaped = shaped
 not_both (Some all) none shaped = none shaped.0 shaped.1
 
 -- where nothing failed, all is done or memory ran out
-pub completes : (tells : Type 0) (blocks : ℕ) (before after : Half → List ℕ) (failed : Half → Type 0) (left : Option (List ℕ)) (source_rose : Type 0)
-    (old new : Option (List ℕ)) (sink_rose : Type 0) (journal : Journal) (status : Status) → tells → NothingFailed blocks before failed left source_rose sink_rose
-    → EndsAs tells blocks before after failed left source_rose old new sink_rose journal status → IsDone status
-completes tells blocks before after failed left source_rose old new sink_rose journal Success t sound ends = tt
-completes tells blocks before after failed left source_rose old new sink_rose journal Usage t sound ends = ends
-completes tells blocks before after failed left source_rose old new sink_rose journal BadScript t sound ends = not_both left ends.0 sound.shaped
-completes tells blocks before after failed left source_rose old new sink_rose journal DriveFault t sound ends = sound.halves ends.0 ends.3
-completes tells blocks before after failed left source_rose old new sink_rose journal BadStore t sound ends = ends.2 t sound.fresh
-completes tells blocks before after failed left source_rose old new sink_rose journal SinkFault t sound ends = sound.sink ends.6
-completes tells blocks before after failed left source_rose old new sink_rose journal SourceFault t sound ends = sound.source ends.0
-completes tells blocks before after failed left source_rose old new sink_rose journal Memory t sound ends = tt
+pub completes : (tells rest : Type 0) (before after : Result State Refused) (failed : Half → Type 0) (left : Option (List ℕ)) (source_rose : Type 0)
+    (old new : Option (List ℕ)) (sink_rose : Type 0) (journal : Journal) (status : Status) → tells → NothingFailed before failed left source_rose sink_rose
+    → EndsAs tells rest before after failed left source_rose old new sink_rose journal status → IsDone status
+completes tells rest before after failed left source_rose old new sink_rose journal Success t sound ends = tt
+completes tells rest before after failed left source_rose old new sink_rose journal Usage t sound ends = ends
+completes tells rest before after failed left source_rose old new sink_rose journal BadScript t sound ends = not_both left ends.0 sound.shaped
+completes tells rest before after failed left source_rose old new sink_rose journal DriveFault t sound ends = sound.halves ends.0 ends.3
+completes tells rest before after failed left source_rose old new sink_rose journal BadStore t sound ends = elim ends.4 [
+  | inl x ↦ (x.0 t).1 sound.served
+  | inr x ↦ (let both : Ok served_state ≡ Err x.0 = sym sound.served ∙ x.1 t in absurd (cc both))
+]
+completes tells rest before after failed left source_rose old new sink_rose journal SinkFault t sound ends = sound.sink ends.6
+completes tells rest before after failed left source_rose old new sink_rose journal SourceFault t sound ends = sound.source ends.0
+completes tells rest before after failed left source_rose old new sink_rose journal Memory t sound ends = tt
 
 -- a half that failed later failed
 pub failed_earlier : (a b n m : ℕ) → a ≤ b → HasFailed b n m → HasFailed a n m

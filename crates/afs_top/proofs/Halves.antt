@@ -1,4 +1,4 @@
-use Rattle.std.proofs.Common.{Result, Ok, Err, OnOk, OnErr}
+use Rattle.std.proofs.Common.{Result, Ok, Err, OnOk, OnErr, IfErr}
 use Rattle.drives.specs.declared.device.Half.{Half}
 use Rattle.drives.specs.declared.device.Half.TheVariants.{A, B}
 
@@ -26,3 +26,8 @@ of_err (Err e) P h = h
 pub of_ok : {T E : Type 0} (r : Result T E) (P : Type 0) → P → OnOk r P
 of_ok (Ok x) P h = h
 of_ok (Err e) P h = tt
+
+-- what follows from a fact of the error follows for it
+pub if_err : {T E : Type 0} (r : Result T E) (P Q : E → Type 0) → ((e : E) → P e → Q e) → IfErr r P → IfErr r Q
+if_err (Ok x) P Q f h = h
+if_err (Err e) P Q f h = f e h

@@ -28,9 +28,10 @@ use Rattle.script_text.specs.declared.reply.LineRefusal.TheVariants.{Full}
 use Rattle.service_model.specs.Causes.{cause_of}
 use Rattle.service_model.specs.Replies.{or_else, reply_at}
 use Rattle.afs_top.specs.Script.{numbered, update_lines, IsRootStep}
-use Rattle.afs_top.specs.NewState.{page_tree, new_file, no_files, new_state}
+use Rattle.afs_top.proofs.Standings.{page_tree, new_file, no_files, plain_state}
 use Rattle.afs_top.proofs.RootTree.{root_fresh}
-use Rattle.afs_top.specs.Course.{entry, answered_lines, is_written_by, IsFront, named, commit_entries, step_answers, whole_answers, begun_entries, stepped_entries, held_entries, whole_entries, scripts_of, client_with, update_with, stepped_standing, held_standing, second_state, final_standing, order_of, turns}
+use Rattle.afs_top.specs.Course.{entry, answered_lines, is_written_by, IsFront, named, commit_entries, step_answers, whole_answers, begun_entries, stepped_entries, held_entries, whole_entries, scripts_of, order_of, turns}
+use Rattle.afs_top.proofs.Standings.{client_with, update_with, stepped_standing, held_standing, plain_second, final_standing}
 
 pub tree_after-snoc : (t : Tree) (steps : List Step) (step : Step) → tree_after t (steps ++ step ∷ []) ≡ after (tree_after t steps) step
 tree_after-snoc t [] step = refl
@@ -167,14 +168,14 @@ step_after : (done : List Step) (step : Step) (todo : List Step) → length done
     → after_entry (scripts_of (done ++ step ∷ todo)) (stepped_standing done) (entry (2 + length done) Answered) ≡ stepped_standing (done ++ step ∷ [])
 step_after done step todo h =
     ap (λ o. option_map_or (λ (line : Line). after_what (stepped_standing done) 1 line.command Answered) o (stepped_standing done)) (step_line done step todo)
-    ∙ ap (λ c. record { state = new_state; clients = c ∷ []; made = []; moment = 0 }) (answered_step new_state done step h)
+    ∙ ap (λ c. record { state = plain_state; clients = c ∷ []; made = []; moment = 0 }) (answered_step plain_state done step h)
 
 step_lawful : (done : List Step) (step : Step) (todo : List Step) → length done < 128
     → IsLawful (scripts_of (done ++ step ∷ todo)) (stepped_standing done) (entry (2 + length done) Answered)
 step_lawful done step todo h =
-    (record { number = 2 + length done; command = Do step }, lit≤ tt, step_line done step todo, refl, reply_told new_state done step h)
+    (record { number = 2 + length done; command = Do step }, lit≤ tt, step_line done step todo, refl, reply_told plain_state done step h)
 
-pub begun_reaches : (steps : List Step) → Reaches new_state (scripts_of steps) begun_entries (stepped_standing [])
+pub begun_reaches : (steps : List Step) → Reaches plain_state (scripts_of steps) begun_entries (stepped_standing [])
 begun_reaches steps = record {
   legal = (
     (record { number = 1; command = Begin (Number 1) }, lit≤ tt, refl, refl, (refl, refl, refl)),
@@ -191,8 +192,8 @@ reaches_to o sc es s t e r lawful is =
 
 -- one more step is answered
 pub step_reaches : (steps done : List Step) (step : Step) (todo : List Step) → done ++ step ∷ todo ≡ steps → length steps ≤ 128
-    → Reaches new_state (scripts_of steps) (stepped_entries (length done)) (stepped_standing done)
-    → Reaches new_state (scripts_of steps) (stepped_entries (length (done ++ step ∷ []))) (stepped_standing (done ++ step ∷ []))
+    → Reaches plain_state (scripts_of steps) (stepped_entries (length done)) (stepped_standing done)
+    → Reaches plain_state (scripts_of steps) (stepped_entries (length (done ++ step ∷ []))) (stepped_standing (done ++ step ∷ []))
 step_reaches steps done step todo whole size r =
     let both = length-append done (step ∷ todo) in
     let one = length-append done (step ∷ []) in
@@ -202,30 +203,30 @@ step_reaches steps done step todo whole size r =
     ap (λ es. begun_entries ++ es) (sym (answered_lines-snoc 2 (length done))) ∙ ap stepped_entries (sym one) in
     let L : List Step → Type 0 = λ x. IsLawful (scripts_of x) (stepped_standing done) (entry (2 + length done) Answered) in
     let A : List Step → Type 0 = λ x. after_entry (scripts_of x) (stepped_standing done) (entry (2 + length done) Answered) ≡ stepped_standing (done ++ step ∷ []) in
-    let E : List Entry → Type 0 = λ es. Reaches new_state (scripts_of steps) es (stepped_standing (done ++ step ∷ [])) in
-    subst E entries (reaches_to new_state (scripts_of steps) (stepped_entries (length done)) (stepped_standing done) (stepped_standing (done ++ step ∷ [])) (entry (2 + length done) Answered)
+    let E : List Entry → Type 0 = λ es. Reaches plain_state (scripts_of steps) es (stepped_standing (done ++ step ∷ [])) in
+    subst E entries (reaches_to plain_state (scripts_of steps) (stepped_entries (length done)) (stepped_standing done) (stepped_standing (done ++ step ∷ [])) (entry (2 + length done) Answered)
     r (subst L whole (step_lawful done step todo short)) (subst A whole (step_after done step todo short)))
 
 -- and so are the others
 steps_reach : (steps done mid rest : List Step) → done ++ (mid ++ rest) ≡ steps → length steps ≤ 128
-    → Reaches new_state (scripts_of steps) (stepped_entries (length done)) (stepped_standing done)
-    → Reaches new_state (scripts_of steps) (stepped_entries (length (done ++ mid))) (stepped_standing (done ++ mid))
+    → Reaches plain_state (scripts_of steps) (stepped_entries (length done)) (stepped_standing done)
+    → Reaches plain_state (scripts_of steps) (stepped_entries (length (done ++ mid))) (stepped_standing (done ++ mid))
 steps_reach steps done [] rest whole size r =
-    let F : List Step → Type 0 = λ x. Reaches new_state (scripts_of steps) (stepped_entries (length x)) (stepped_standing x) in
+    let F : List Step → Type 0 = λ x. Reaches plain_state (scripts_of steps) (stepped_entries (length x)) (stepped_standing x) in
     subst F (sym (append-nil done)) r
 steps_reach steps done (step ∷ mid) rest whole size r =
-    let F : List Step → Type 0 = λ x. Reaches new_state (scripts_of steps) (stepped_entries (length x)) (stepped_standing x) in
+    let F : List Step → Type 0 = λ x. Reaches plain_state (scripts_of steps) (stepped_entries (length x)) (stepped_standing x) in
     subst F (append_assoc done (step ∷ []) mid)
     (steps_reach steps (done ++ step ∷ []) mid rest (append_assoc done (step ∷ []) (mid ++ rest) ∙ whole) size
     (step_reaches steps done step (mid ++ rest) whole size r))
 
 -- a front of the steps is answered
 pub front_stepped : (steps done todo : List Step) → done ++ todo ≡ steps → length steps ≤ 128
-    → Reaches new_state (scripts_of steps) (stepped_entries (length done)) (stepped_standing done)
+    → Reaches plain_state (scripts_of steps) (stepped_entries (length done)) (stepped_standing done)
 unfolding answered_lines
 front_stepped steps done todo whole size = steps_reach steps [] done todo whole size (begun_reaches steps)
 
-pub stepped_reaches : (steps : List Step) → length steps ≤ 128 → Reaches new_state (scripts_of steps) (stepped_entries (length steps)) (stepped_standing steps)
+pub stepped_reaches : (steps : List Step) → length steps ≤ 128 → Reaches plain_state (scripts_of steps) (stepped_entries (length steps)) (stepped_standing steps)
 stepped_reaches steps size = front_stepped steps steps [] (append-nil steps) size
 
 -- ---- the commit
@@ -248,7 +249,7 @@ no_blocks : (n : ℕ) → sum_by kept_blocks (no_files n) ≡ 0
 unfolding no_files
 no_blocks n = sum_by-replicate kept_blocks n _ ∙ omega arith
 
-used_blocks : sum_by kept_blocks new_state.files ≡ 2
+used_blocks : sum_by kept_blocks plain_state.files ≡ 2
 used_blocks = sum_by-cons kept_blocks (new_file 1) (new_file 2 ∷ no_files 58) ∙ ap (λ n. 1 + n) (sum_by-cons kept_blocks (new_file 2) (no_files 58)) ∙ ap (λ n. 1 + (1 + n)) (no_blocks 58)
 
 pub free_blocks : (steps : List Step) → free (stepped_standing steps) ≡ 61
@@ -262,9 +263,9 @@ need_is steps root written = ap (λ b. sum_by (λ (w : Work). length (fresh_of w
     ∙ ap (λ (paths : List (List ℕ)). 0 + length paths) (root_fresh steps root written)
 
 pub held_reaches : (steps : List Step) → All IsRootStep steps → length steps ≤ 128 → is_written_by steps ≡ true
-    → Reaches new_state (scripts_of steps) (held_entries (length steps)) (held_standing steps)
+    → Reaches plain_state (scripts_of steps) (held_entries (length steps)) (held_standing steps)
 held_reaches steps root size written =
-    reaches_to new_state (scripts_of steps) (stepped_entries (length steps)) (stepped_standing steps) (held_standing steps) (entry (length steps + 2) (Held 1))
+    reaches_to plain_state (scripts_of steps) (stepped_entries (length steps)) (stepped_standing steps) (held_standing steps) (entry (length steps + 2) (Held 1))
     (stepped_reaches steps size)
     (commit_lawful steps (stepped_standing steps) (Held 1) (commit_line steps)
     (refl, refl, (has_writes_is steps written, sym (need_is steps root written)), (let F : ℕ → Type 0 = λ n. 1 ≤ n in subst F (sym (free_blocks steps)) (lit≤ tt))))
@@ -303,12 +304,12 @@ committable : (steps : List Step) → All IsRootStep steps → is_written_by ste
 committable steps root written = record {
   held = ap (λ n. Held n ∷ []) (sym (need_is steps root written));
   unclashed = λ k d short. nothing_clashes (get_or (written_works (update_with steps)) k d);
-  unworn = let F : List Work → Type 0 = λ ws. All (λ (w : Work). next_serial new_state w.object < 2 ^ 64) ws in
+  unworn = let F : List Work → Type 0 = λ ws. All (λ (w : Work). next_serial plain_state w.object < 2 ^ 64) ws in
       subst F (sym (written_works_is steps written)) one;
-  versions = ap (λ (ws : List Work). map (λ (w : Work). record { object = w.object; serial = next_serial new_state w.object }) ws) (sym (written_works_is steps written));
+  versions = ap (λ (ws : List Work). map (λ (w : Work). record { object = w.object; serial = next_serial plain_state w.object }) ws) (sym (written_works_is steps written));
 }
   where
-    one : All (λ (w : Work). next_serial new_state w.object < 2 ^ 64) (work_with steps ∷ [])
+    one : All (λ (w : Work). next_serial plain_state w.object < 2 ^ 64) (work_with steps ∷ [])
     one zero d short = lit≤ tt
     one (suc k) d short = absurd (omega arith)
 
@@ -322,28 +323,28 @@ written_lawful steps at root written =
 
 -- the commit makes the second version
 written_after : (steps : List Step) (at : ℕ) → All IsRootStep steps → is_written_by steps ≡ true
-    → after_what (held_standing steps) 1 Commit (Committed (named 2 ∷ []) at) ≡ committed_standing steps (written_notes at) at (second_state steps) (second_made steps)
+    → after_what (held_standing steps) 1 Commit (Committed (named 2 ∷ []) at) ≡ committed_standing steps (written_notes at) at (plain_second steps) (second_made steps)
 written_after steps at root written = rw (written_works_is steps written, root_fresh steps root written) refl
 
 -- and the answer ends the update
 written_answer : (steps : List Step) (at : ℕ)
-    → after_what (committed_standing steps (written_notes at) at (second_state steps) (second_made steps)) 1 Commit Answered
-    ≡ record { state = second_state steps; clients = client_with (whole_answers true steps) None 0 [] ∷ []; made = second_made steps; moment = at }
+    → after_what (committed_standing steps (written_notes at) at (plain_second steps) (second_made steps)) 1 Commit Answered
+    ≡ record { state = plain_second steps; clients = client_with (whole_answers true steps) None 0 [] ∷ []; made = second_made steps; moment = at }
 written_answer steps at = refl
 
 -- the whole journal of an update that wrote
 pub written_reaches : (steps : List Step) (at : ℕ) → All IsRootStep steps → length steps ≤ 128 → is_written_by steps ≡ true
-    → Reaches new_state (scripts_of steps) (held_entries (length steps) ++ commit_entries (length steps + 2) at)
-    (record { state = second_state steps; clients = client_with (whole_answers true steps) None 0 [] ∷ []; made = second_made steps; moment = at })
+    → Reaches plain_state (scripts_of steps) (held_entries (length steps) ++ commit_entries (length steps + 2) at)
+    (record { state = plain_second steps; clients = client_with (whole_answers true steps) None 0 [] ∷ []; made = second_made steps; moment = at })
 written_reaches steps at root size written =
-    let made = committed_standing steps (written_notes at) at (second_state steps) (second_made steps) in
-    let end : Standing = record { state = second_state steps; clients = client_with (whole_answers true steps) None 0 [] ∷ []; made = second_made steps; moment = at } in
+    let made = committed_standing steps (written_notes at) at (plain_second steps) (second_made steps) in
+    let end : Standing = record { state = plain_second steps; clients = client_with (whole_answers true steps) None 0 [] ∷ []; made = second_made steps; moment = at } in
     let es = held_entries (length steps) in
     let commit = entry (length steps + 2) (Committed (named 2 ∷ []) at) in
-    let F : List Entry → Type 0 = λ x. Reaches new_state (scripts_of steps) x end in
+    let F : List Entry → Type 0 = λ x. Reaches plain_state (scripts_of steps) x end in
     subst F (append_assoc es (commit ∷ []) (entry (length steps + 2) Answered ∷ []))
-    (reaches_to new_state (scripts_of steps) (es ++ commit ∷ []) made end (entry (length steps + 2) Answered)
-    (reaches_to new_state (scripts_of steps) es (held_standing steps) made commit
+    (reaches_to plain_state (scripts_of steps) (es ++ commit ∷ []) made end (entry (length steps + 2) Answered)
+    (reaches_to plain_state (scripts_of steps) es (held_standing steps) made commit
     (held_reaches steps root size written)
     (commit_lawful steps (held_standing steps) (Committed (named 2 ∷ []) at) (commit_line steps) (written_lawful steps at root written))
     (commit_after steps (held_standing steps) (Committed (named 2 ∷ []) at) (commit_line steps) ∙ written_after steps at root written))

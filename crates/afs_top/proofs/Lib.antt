@@ -1,11 +1,17 @@
-pub mod Blocks
+pub mod Standings
 pub mod Ends
+pub mod Failing
+pub mod Firsts
+pub mod Forms
 pub mod Halves
 pub mod Journal
 pub mod Lines
+mod NewTest
+mod Placing
+pub mod Rooted
 pub mod RootTree
 pub mod ScriptLemmas
+mod Second
+mod Singles
 pub mod StepLoop
-pub mod StoreLemmas
-pub mod Texts
 pub mod Whole

@@ -7,11 +7,12 @@ use Rattle.script_text.specs.declared.reply.LineReply.{LineReply}
 use Rattle.tree_model.specs.declared.step.Step.{Step}
 use Rattle.service_model.specs.Print.{answer_text, client_text, clients_text, files_text, answers_printed, printed}
 use Rattle.service_model.specs.Standing.{Standing, Client}
-use Rattle.afs_top.specs.Course.{scripts_of, second_state, final_standing, whole_answers, is_written_by, client_with}
+use Rattle.afs_top.specs.Course.{scripts_of, whole_answers, is_written_by}
+use Rattle.afs_top.proofs.Standings.{plain_second, final_standing, client_with}
 use Rattle.afs_top.proofs.Journal.{whole_answers-length}
 use Rattle.std.specs.Prelude.{if◌then◌else◌}
 use Rattle.afs_top.specs.Output.{file_line, reply_lines}
-use Rattle.afs_top.specs.NewState.{no_files, new_state}
+use Rattle.afs_top.proofs.Standings.{no_files, plain_state}
 use Rattle.afs_top.specs.Script.{numbered, update_lines}
 
 pub numbered_text : (n : ℕ) (commands : List Command) (replies : List LineReply) → length replies ≤ length commands → client_text 1 (numbered n commands) replies ≡ reply_lines n replies
@@ -38,10 +39,10 @@ unfolding no_files
 no_files_text object zero = refl
 no_files_text object (suc n) = no_files_text (object + 1) n
 
-pub new_files_text : files_text 1 new_state.files ≡ file_line 1 (1 ∷ []) ++ file_line 2 (1 ∷ [])
+pub new_files_text : files_text 1 plain_state.files ≡ file_line 1 (1 ∷ []) ++ file_line 2 (1 ∷ [])
 new_files_text = ap (λ rest. file_line 1 (1 ∷ []) ++ (file_line 2 (1 ∷ []) ++ rest)) (no_files_text 3 58) ∙ ap (λ rest. file_line 1 (1 ∷ []) ++ rest) (append-nil (file_line 2 (1 ∷ [])))
 
-pub second_files_text : (steps : List Step) → files_text 1 (second_state steps).files ≡ file_line 1 (1 ∷ 2 ∷ []) ++ file_line 2 (1 ∷ [])
+pub second_files_text : (steps : List Step) → files_text 1 (plain_second steps).files ≡ file_line 1 (1 ∷ 2 ∷ []) ++ file_line 2 (1 ∷ [])
 second_files_text steps = ap (λ rest. file_line 1 (1 ∷ 2 ∷ []) ++ (file_line 2 (1 ∷ []) ++ rest)) (no_files_text 3 58) ∙ ap (λ rest. file_line 1 (1 ∷ 2 ∷ []) ++ rest) (append-nil (file_line 2 (1 ∷ [])))
 
 -- one answer more is one line more
@@ -53,7 +54,7 @@ reply_lines-snoc n (r ∷ rs) reply =
 
 -- the lines of the files at the end, by whether the update wrote
 final_files_text : (written : Bool) (steps : List Step)
-    → files_text 1 (if written then second_state steps else new_state).files ≡ file_line 1 (if written then 1 ∷ 2 ∷ [] else 1 ∷ []) ++ file_line 2 (1 ∷ [])
+    → files_text 1 (if written then plain_second steps else plain_state).files ≡ file_line 1 (if written then 1 ∷ 2 ∷ [] else 1 ∷ []) ++ file_line 2 (1 ∷ [])
 final_files_text true steps = second_files_text steps
 final_files_text false steps = new_files_text
 

@@ -9,9 +9,9 @@ use Rattle.tree_model.specs.Trees.{has, single, after, tree_after}
 use Rattle.tree_model.proofs.Paths.{told, same, path_total, path_only, same_self, same_is}
 use Rattle.tree_model.proofs.TreeFacts.{get_insert}
 use Rattle.afs_top.specs.Script.{IsRootStep}
-use Rattle.afs_top.specs.NewState.{page_tree}
+use Rattle.afs_top.proofs.Standings.{page_tree}
 use Rattle.afs_top.specs.Course.{is_written_by}
-use Rattle.afs_top.specs.Versions.{root_data}
+use Rattle.afs_top.specs.Served.{root_data}
 
 -- the facts of the first step and of the others
 pub first_root : (step : Step) (steps : List Step) → All IsRootStep (step ∷ steps) → IsRootStep step

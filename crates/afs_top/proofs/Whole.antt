@@ -11,8 +11,9 @@ use Rattle.service_model.specs.Standing.{Standing, client_of, has_writes}
 use Rattle.tree_model.specs.declared.step.Step.{Step}
 use Rattle.tree_model.specs.Accesses.{visible_of}
 use Rattle.tree_model.proofs.Paths.{told}
-use Rattle.afs_top.specs.Course.{is_written_by, entry, held_entries, commit_entries, stepped_entries, nothing_entries, whole_entries, whole_answers, scripts_of, client_with, update_with, stepped_standing, second_state, final_standing}
-use Rattle.afs_top.specs.NewState.{page_tree, new_state}
+use Rattle.afs_top.specs.Course.{is_written_by, entry, held_entries, commit_entries, stepped_entries, nothing_entries, whole_entries, whole_answers, scripts_of}
+use Rattle.afs_top.proofs.Standings.{client_with, update_with, stepped_standing, plain_second, final_standing}
+use Rattle.afs_top.proofs.Standings.{page_tree, plain_state}
 use Rattle.afs_top.specs.Script.{IsRootStep}
 use Rattle.afs_top.proofs.Journal.{reaches_to, stepped_reaches, commit_line, commit_lawful, commit_after, committed_standing, work_with, written_reaches}
 
@@ -30,27 +31,27 @@ nothing_lawful steps at none =
 
 -- a commit of no writes makes no version
 nothing_after : (steps : List Step) (at : ℕ) → is_written_by steps ≡ false
-    → after_what (stepped_standing steps) 1 Commit (Committed [] at) ≡ committed_standing steps (Committed [] at ∷ []) at new_state []
+    → after_what (stepped_standing steps) 1 Commit (Committed [] at) ≡ committed_standing steps (Committed [] at ∷ []) at plain_state []
 nothing_after steps at none = rw (no_works steps none) refl
 
 nothing_answer : (steps : List Step) (at : ℕ)
-    → after_what (committed_standing steps (Committed [] at ∷ []) at new_state []) 1 Commit Answered
-    ≡ record { state = new_state; clients = client_with (whole_answers false steps) None 0 [] ∷ []; made = []; moment = at }
+    → after_what (committed_standing steps (Committed [] at ∷ []) at plain_state []) 1 Commit Answered
+    ≡ record { state = plain_state; clients = client_with (whole_answers false steps) None 0 [] ∷ []; made = []; moment = at }
 nothing_answer steps at = refl
 
 -- the whole journal of an update that wrote nothing
 pub nothing_reaches : (steps : List Step) (at : ℕ) → length steps ≤ 128 → is_written_by steps ≡ false
-    → Reaches new_state (scripts_of steps) (stepped_entries (length steps) ++ nothing_entries (length steps + 2) at)
-    (record { state = new_state; clients = client_with (whole_answers false steps) None 0 [] ∷ []; made = []; moment = at })
+    → Reaches plain_state (scripts_of steps) (stepped_entries (length steps) ++ nothing_entries (length steps + 2) at)
+    (record { state = plain_state; clients = client_with (whole_answers false steps) None 0 [] ∷ []; made = []; moment = at })
 nothing_reaches steps at size none =
-    let made = committed_standing steps (Committed [] at ∷ []) at new_state [] in
-    let end : Standing = record { state = new_state; clients = client_with (whole_answers false steps) None 0 [] ∷ []; made = []; moment = at } in
+    let made = committed_standing steps (Committed [] at ∷ []) at plain_state [] in
+    let end : Standing = record { state = plain_state; clients = client_with (whole_answers false steps) None 0 [] ∷ []; made = []; moment = at } in
     let es = stepped_entries (length steps) in
     let commit = entry (length steps + 2) (Committed [] at) in
-    let F : List Entry → Type 0 = λ x. Reaches new_state (scripts_of steps) x end in
+    let F : List Entry → Type 0 = λ x. Reaches plain_state (scripts_of steps) x end in
     subst F (append_assoc es (commit ∷ []) (entry (length steps + 2) Answered ∷ []))
-    (reaches_to new_state (scripts_of steps) (es ++ commit ∷ []) made end (entry (length steps + 2) Answered)
-    (reaches_to new_state (scripts_of steps) es (stepped_standing steps) made commit
+    (reaches_to plain_state (scripts_of steps) (es ++ commit ∷ []) made end (entry (length steps + 2) Answered)
+    (reaches_to plain_state (scripts_of steps) es (stepped_standing steps) made commit
     (stepped_reaches steps size)
     (commit_lawful steps (stepped_standing steps) (Committed [] at) (commit_line steps) (nothing_lawful steps at none))
     (commit_after steps (stepped_standing steps) (Committed [] at) (commit_line steps) ∙ nothing_after steps at none))
@@ -60,24 +61,24 @@ nothing_reaches steps at size none =
 -- what stands at the end, by whether the update wrote
 abbrev final_by : Bool → List Step → ℕ → Standing
 final_by written steps at = record {
-  state = if written then second_state steps else new_state;
+  state = if written then plain_second steps else plain_state;
   clients = client_with (whole_answers written steps) None 0 [] ∷ [];
   made = if written then record { object = 1; serial = 2; visible = visible_of (page_tree []) steps } ∷ [] else [];
   moment = at;
 }
 
 -- the held entry stands before those of the commit
-held_first : (steps : List Step) (at : ℕ) → Reaches new_state (scripts_of steps) (held_entries (length steps) ++ commit_entries (length steps + 2) at) (final_by true steps at)
-    → Reaches new_state (scripts_of steps) (whole_entries true (length steps) at) (final_by true steps at)
+held_first : (steps : List Step) (at : ℕ) → Reaches plain_state (scripts_of steps) (held_entries (length steps) ++ commit_entries (length steps + 2) at) (final_by true steps at)
+    → Reaches plain_state (scripts_of steps) (whole_entries true (length steps) at) (final_by true steps at)
 held_first steps at r =
     let k = length steps in
-    let F : List Entry → Type 0 = λ es. Reaches new_state (scripts_of steps) es (final_by true steps at) in
+    let F : List Entry → Type 0 = λ es. Reaches plain_state (scripts_of steps) es (final_by true steps at) in
     subst F (append_assoc (stepped_entries k) (entry (k + 2) (Held 1) ∷ []) (commit_entries (k + 2) at)) r
 
 pub whole_reaches : (steps : List Step) (at : ℕ) → All IsRootStep steps → length steps ≤ 128
-    → Reaches new_state (scripts_of steps) (whole_entries (is_written_by steps) (length steps) at) (final_standing steps at)
+    → Reaches plain_state (scripts_of steps) (whole_entries (is_written_by steps) (length steps) at) (final_standing steps at)
 whole_reaches steps at root size =
-    let F : Bool → Type 0 = λ b. Reaches new_state (scripts_of steps) (whole_entries b (length steps) at) (final_by b steps at) in
+    let F : Bool → Type 0 = λ b. Reaches plain_state (scripts_of steps) (whole_entries b (length steps) at) (final_by b steps at) in
     elim (told (is_written_by steps)) [
       | inl written ↦ subst F (sym written) (held_first steps at (written_reaches steps at root size written))
       | inr none ↦ subst F (sym none) (nothing_reaches steps at size none)

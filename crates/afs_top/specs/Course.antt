@@ -1,4 +1,4 @@
-use Rattle.std.specs.Prelude.{◌≡◌, ℕ, zero, suc, ◌+◌, Bool, true, not, ◌==◌, List, [], ◌∷◌, ◌++◌, map, length, if◌then◌else◌, Option, Some, None}
+use Rattle.std.specs.Prelude.{◌≡◌, ℕ, zero, suc, ◌+◌, Bool, true, not, ◌==◌, List, [], ◌∷◌, ◌++◌, map, length, if◌then◌else◌}
 use Rattle.script_text.specs.declared.reply.LineReply.{LineReply}
 use Rattle.script_text.specs.declared.reply.LineReply.TheVariants.{Base, Committed as CommittedReply, Stepped}
 use Rattle.service_model.specs.declared.journal.Entry.{Entry}
@@ -6,13 +6,11 @@ use Rattle.service_model.specs.declared.journal.What.{What}
 use Rattle.service_model.specs.declared.journal.What.TheVariants.{Began, Held, Committed, Answered}
 use Rattle.service_model.specs.declared.named.Named.{Named}
 use Rattle.service_model.specs.Order.{Turn}
-use Rattle.service_model.specs.Standing.{Scripts, Standing, Client, Update}
-use Rattle.tree_model.specs.States.{State, Version}
+use Rattle.service_model.specs.Standing.{Scripts}
 use Rattle.tree_model.specs.declared.step.Step.{Step}
-use Rattle.tree_model.specs.Accesses.{all_writes, visible_of}
-use Rattle.tree_model.specs.Trees.{single, replies_of, tree_after}
+use Rattle.tree_model.specs.Accesses.{all_writes}
+use Rattle.tree_model.specs.Trees.{single, replies_of}
 use Rattle.afs_top.specs.Script.{update_lines}
-use Rattle.afs_top.specs.NewState.{page_tree, first_version, new_file, no_files, new_state}
 
 -- What the run of one update notes, part by part.
 
@@ -97,36 +95,3 @@ turns n (suc k) = (1, n) ∷ turns (n + 1) k
 -- the order in which the lines of such an update are answered
 abbrev pub order_of : List Step → List Turn
 order_of steps = turns 1 (length steps + 2)
-
--- a client of such a run, with these answers and this update
-abbrev pub client_with : List LineReply → Option Update → ℕ → List What → Client
-client_with answers update held noted = record { answers = answers; update = update; held = held; noted = noted }
-
--- the update after these steps
-abbrev pub update_with : List Step → Update
-update_with steps = record { works = record { object = 1; serial = 1; base = page_tree []; steps = steps } ∷ []; picked = 0 }
-
--- what stands after these steps
-abbrev pub stepped_standing : List Step → Standing
-stepped_standing steps = record { state = new_state; clients = client_with (step_answers steps) (Some (update_with steps)) 0 [] ∷ []; made = []; moment = 0 }
-
--- what stands when the block of the commit is held
-abbrev pub held_standing : List Step → Standing
-held_standing steps = record { state = new_state; clients = client_with (step_answers steps) (Some (update_with steps)) 1 (Held 1 ∷ []) ∷ []; made = []; moment = 0 }
-
--- the second version of file 1
-abbrev pub second_of : List Step → Version
-second_of steps = record { serial = 2; tree = tree_after (page_tree []) steps; fresh = [] ∷ [] }
-
--- the state with the second version
-abbrev pub second_state : List Step → State
-second_state steps = record new_state { files = record (new_file 1) { versions = first_version ∷ second_of steps ∷ [] } ∷ new_file 2 ∷ no_files 58 }
-
--- what stands at the end, after a commit at this moment
-abbrev pub final_standing : List Step → ℕ → Standing
-final_standing steps at = record {
-  state = if is_written_by steps then second_state steps else new_state;
-  clients = client_with (whole_answers (is_written_by steps) steps) None 0 [] ∷ [];
-  made = if is_written_by steps then record { object = 1; serial = 2; visible = visible_of (page_tree []) steps } ∷ [] else [];
-  moment = at;
-}

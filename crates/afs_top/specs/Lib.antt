@@ -1,14 +1,10 @@
-pub mod Status
 pub mod Stop
 pub mod Reading
 pub mod Script
-pub mod NewState
-pub mod NewStore
-pub mod Found
-pub mod Versions
+pub mod Served
+pub mod Opening
 pub mod Course
 pub mod Cut
-pub mod Faults
 pub mod Output
 pub mod Words
 pub mod Play

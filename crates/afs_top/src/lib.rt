@@ -4,17 +4,16 @@
 
 mod account;
 mod draft;
-mod open;
 mod pages;
 mod play;
 mod print;
 mod read;
 mod script;
-mod status;
+mod served;
 mod stop;
 #[cfg(test)]
 mod tests;
 mod update;
 
-pub use play::{Ended, afs_play, afs_words};
-pub use status::Status;
+pub use endings::{Ended, Status};
+pub use play::{afs_play, afs_words};

@@ -1,34 +1,39 @@
-ghost use Rattle.std.specs.Prelude.{◌≡◌, ◌⊎◌, ◌≤◌, ◌↔◌, [], ◌∷◌, length, List, ℕ, IsTrue, IfSome, IfOk, IfErr, IsErrOf, All, Option, None};
+ghost use Rattle.std.specs.Prelude.{◌≡◌, ◌⊎◌, ◌≤◌, ◌<◌, ◌↔◌, [], ◌∷◌, length, List, ℕ, IsTrue, IfSome, IfOk, IfErr, IsErrOf, All, Option, None};
 ghost use Rattle.afs_base.specs.Causes.{Rose};
 ghost use Rattle.drives.specs.declared.device.Half.{Half};
-ghost use Rattle.afs_top.specs.Faults.{HalfFailed, Later, Prints};
-ghost use Rattle.afs_top.specs.Play.{EndsAs, HasScript, IsBeforeOpening, IsDone, NothingFailed};
-ghost use Rattle.afs_top.specs.Output.{usage_text};
+ghost use Rattle.drives.specs.Changes.{IsAtRest, halves_seen};
+ghost use Rattle.recovery.specs.Opening.{IsFailed};
+ghost use Rattle.endings.specs.Noted.{IsNothingNoted};
+ghost use Rattle.endings.specs.Printing.{Prints};
+ghost use Rattle.endings.specs.Status.{IsDone};
+ghost use Rattle.endings.specs.Texts.{usage_text};
+ghost use Rattle.pair_store.specs.Content.{IsSettled, content_of};
+ghost use Rattle.store_model.specs.Found.{found};
+ghost use Rattle.afs_top.specs.Play.{EndsAs, HasScript, IsBeforeOpening, NothingFailed};
+ghost use Rattle.afs_top.specs.Served.{IsReady, IsServed};
 ghost use Rattle.afs_top.specs.Words.{IsCommand, IsPlay, IsUsage, faults_of, left_of};
-ghost use Rattle.afs_top.specs.NewStore.{IsNew};
 ghost use Rattle.afs_top.specs.Script.{IsScript, IsRootStep};
 ghost use Rattle.tree_model.specs.declared.step.Step.{Step};
 
 use crate::account::Account;
-use crate::open::open;
-use crate::print::{finish, halt, put_line};
+use crate::print::{finish, halt};
 use crate::read::read_script;
 use crate::script::{is_text, parse};
-use crate::status::Status;
+use crate::served::{Place, Served, Unserved, open_served};
 use crate::stop::Stop;
 use crate::update::run;
 use drives::Drives;
+use endings::{Ended, Status, empty_journal, end_usage};
+use pair_store::Blocks;
 use script_text::{Sink, Source};
-use service_model::Journal;
 use std::alloc::Global;
 use tree_model::Step;
 
-/// How a call ended: its status, the halves that it was given, and what it did to the store they hold.
+/// How a call ended, and the halves that it was given.
 #[derive(Drop)]
-pub struct Ended<V> {
-    pub status: Status,
-    pub drives: V,
-    pub journal: Journal,
+struct Played<V> {
+    status: Status,
+    drives: V,
 }
 
 /// Reads a script and takes it apart.
@@ -45,79 +50,128 @@ fn read_steps<S: Source>(alloc: Global, source: &mut S) -> Result<Vec<Step>, Sto
     parse(alloc, &text)
 }
 
-/// Plays the update over the new store and prints what happened.
-fn play_opened<V: Drives, K: Sink>(
+/// Plays the update over the store that is served and prints what happened.
+fn play_opened<B: Blocks, K: Sink>(
     alloc: Global,
-    drives: &mut V,
+    store: &mut B,
+    place: &Place,
     steps: &[Step],
     account: &mut Account,
     out: &mut K,
 ) -> Status
-    requires room { 64 ≤ V.size drives.old }
-    requires new { V.tells → IsNew (V.size drives.old) (V.seen drives.old) }
+    requires ready { B.tells → IsReady (B.content store.old) (B.size store.old) place.now.base place.now.free }
+    requires base { place.now.base < B.size store.old }
+    requires low { 1 ≤ place.now.base }
+    requires free { place.now.free < B.size store.old }
+    requires above { 1 ≤ place.now.free }
+    requires settled { B.tells → B.settled store.old place.now.base }
     requires few { length steps.now ≤ 128 }
     requires root { All IsRootStep steps.now }
     requires entries { account.old.journal.entries.items ≡ [] }
     requires replies { account.old.replies.items ≡ [] }
     requires doubt { account.old.journal.doubt ≡ None }
-    ensures ends { (left : Option (List ℕ)) → HasScript left steps.now → EndsAs V.tells (V.size drives.old) (V.seen drives.old) (V.seen drives.new)
-        (λ h. HalfFailed V.moment V.faults h drives.old drives.new) left ⊥ (K.written out.old) (K.written out.new) (Rose (K.faults out.old) (K.faults out.new)) account.new.journal result }
+    ensures ends { (left : Option (List ℕ)) → HasScript left steps.now → EndsAs B.tells (Unit {0}) (found (B.content store.old) (B.size store.old)) (found (B.content store.new) (B.size store.new))
+        (λ h. IsFailed (B.faults store.old) (B.faults store.new) (B.last_fault store.new) (B.moment store.new) (B.tells → IsServed (B.content store.old) (B.size store.old) → ⊥) h) left ⊥ (K.written out.old) (K.written out.new) (Rose (K.faults out.old) (K.faults out.new)) account.new.journal result }
     ensures opened { IsBeforeOpening result → ⊥ }
+    ensures later { (h : Half) → B.faults store.old h ≤ B.faults store.new h }
+    ensures size { B.size store.new ≡ B.size store.old }
 {
-    match run(alloc, drives, steps, account) {
+    match run(alloc, store, place, steps, account) {
         Ok(written) => finish(alloc, out, &account.replies, written),
         Err(stop) => halt(alloc, out, &account.replies, stop),
+    }
+}
+
+/// Plays the update over halves that were opened, and gives them back.
+fn play_served<V: Drives, K: Sink>(
+    alloc: Global,
+    served: Served<V>,
+    steps: &[Step],
+    account: &mut Account,
+    out: &mut K,
+) -> Played<V>
+    requires ready { V.tells → IsReady (content_of (halves_seen V.seen served.pair.drives)) (V.size served.pair.drives) served.place.base served.place.free }
+    requires base { served.place.base < V.size served.pair.drives }
+    requires low { 1 ≤ served.place.base }
+    requires free { served.place.free < V.size served.pair.drives }
+    requires above { 1 ≤ served.place.free }
+    requires settled { V.tells → IsSettled served.place.base (halves_seen V.seen served.pair.drives) }
+    requires few { length steps.now ≤ 128 }
+    requires root { All IsRootStep steps.now }
+    requires entries { account.old.journal.entries.items ≡ [] }
+    requires replies { account.old.replies.items ≡ [] }
+    requires doubt { account.old.journal.doubt ≡ None }
+    ensures ends { (left : Option (List ℕ)) → HasScript left steps.now → EndsAs V.tells (Unit {0}) (found (content_of (halves_seen V.seen served.pair.drives)) (V.size served.pair.drives)) (found (content_of (halves_seen V.seen result.drives)) (V.size result.drives))
+        (λ h. IsFailed (V.faults served.pair.drives) (V.faults result.drives) (V.last_fault result.drives) (V.moment result.drives) (V.tells → IsServed (content_of (halves_seen V.seen served.pair.drives)) (V.size served.pair.drives) → ⊥) h) left ⊥ (K.written out.old) (K.written out.new) (Rose (K.faults out.old) (K.faults out.new)) account.new.journal result.status }
+    ensures opened { IsBeforeOpening result.status → ⊥ }
+{
+    let Served { pair, place } = served;
+    let mut pair = pair;
+    let status = play_opened(alloc, &mut pair, &place, steps, account, out);
+    Played {
+        status,
+        drives: pair.into_drives(),
     }
 }
 
 /// Opens the store, plays the update over it and prints what happened.
 fn play_steps<V: Drives, K: Sink>(
     alloc: Global,
-    drives: &mut V,
+    drives: V,
     steps: &[Step],
     account: &mut Account,
     out: &mut K,
-) -> Status
+) -> Played<V>
     requires few { length steps.now ≤ 128 }
     requires root { All IsRootStep steps.now }
     requires entries { account.old.journal.entries.items ≡ [] }
     requires replies { account.old.replies.items ≡ [] }
     requires doubt { account.old.journal.doubt ≡ None }
-    ensures ends { (left : Option (List ℕ)) → HasScript left steps.now → EndsAs V.tells (V.size drives.old) (V.seen drives.old) (V.seen drives.new)
-        (λ h. HalfFailed V.moment V.faults h drives.old drives.new) left ⊥ (K.written out.old) (K.written out.new) (Rose (K.faults out.old) (K.faults out.new)) account.new.journal result }
-    ensures opened { IsBeforeOpening result → ⊥ }
+    ensures ends { (left : Option (List ℕ)) → HasScript left steps.now → EndsAs V.tells (IsAtRest V.seen V.moment V.may_leave drives) (found (content_of (halves_seen V.seen drives)) (V.size drives)) (found (content_of (halves_seen V.seen result.drives)) (V.size result.drives))
+        (λ h. IsFailed (V.faults drives) (V.faults result.drives) (V.last_fault result.drives) (V.moment result.drives) (V.tells → IsServed (content_of (halves_seen V.seen drives)) (V.size drives) → ⊥) h) left ⊥ (K.written out.old) (K.written out.new) (Rose (K.faults out.old) (K.faults out.new)) account.new.journal result.status }
+    ensures opened { IsBeforeOpening result.status → ⊥ }
 {
-    match open(alloc, drives) {
-        Ok(()) => play_opened(alloc, drives, steps, account, out),
-        Err(stop) => halt(alloc, out, &account.replies, stop),
+    match open_served(alloc, drives) {
+        Ok(served) => play_served(alloc, served, steps, account, out),
+        Err(unserved) => {
+            let Unserved { drives, stop } = unserved;
+            Played {
+                status: halt(alloc, out, &account.replies, stop),
+                drives,
+            }
+        }
     }
 }
 
 /// Reads the script, plays it and prints what happened.
 fn serve<V: Drives, S: Source, K: Sink>(
     alloc: Global,
-    drives: &mut V,
+    drives: V,
     source: &mut S,
     account: &mut Account,
     out: &mut K,
-) -> Status
+) -> Played<V>
     requires entries { account.old.journal.entries.items ≡ [] }
     requires replies { account.old.replies.items ≡ [] }
     requires doubt { account.old.journal.doubt ≡ None }
-    ensures ends { EndsAs V.tells (V.size drives.old) (V.seen drives.old) (V.seen drives.new) (λ h. HalfFailed V.moment V.faults h drives.old drives.new)
-        (S.left source.old) (Rose (S.faults source.old) (S.faults source.new)) (K.written out.old) (K.written out.new) (Rose (K.faults out.old) (K.faults out.new)) account.new.journal result }
-    ensures untouched { IsBeforeOpening result → drives.new ≡ drives.old }
+    ensures ends { EndsAs V.tells (IsAtRest V.seen V.moment V.may_leave drives) (found (content_of (halves_seen V.seen drives)) (V.size drives)) (found (content_of (halves_seen V.seen result.drives)) (V.size result.drives))
+        (λ h. IsFailed (V.faults drives) (V.faults result.drives) (V.last_fault result.drives) (V.moment result.drives) (V.tells → IsServed (content_of (halves_seen V.seen drives)) (V.size drives) → ⊥) h) (S.left source.old) (Rose (S.faults source.old) (S.faults source.new)) (K.written out.old) (K.written out.new) (Rose (K.faults out.old) (K.faults out.new)) account.new.journal result.status }
+    ensures untouched { IsBeforeOpening result.status → result.drives ≡ drives }
 {
     match read_steps(alloc, source) {
         Ok(steps) => play_steps(alloc, drives, &steps, account, out),
-        Err(stop) => halt(alloc, out, &account.replies, stop),
+        Err(stop) => Played {
+            status: halt(alloc, out, &account.replies, stop),
+            drives,
+        },
     }
 }
 
-/// Plays one script over the new store: file 1 gets a version of what it writes.
+/// Plays one script over the new store that is served: file 1 gets a version of what it writes.
 ///
-/// `order` names the clients whose turn it is; none is needed for one client. How the call ends is said by its status:
-/// what was played, printed and left on the halves for each.
+/// The store is recovered first, so it is served whatever a crash left of an earlier call. `order` names the clients whose
+/// turn it is; none is needed for one client. How the call ends is said by its status: what was played, printed and left on
+/// the halves for each.
 pub fn afs_play<V: Drives, S: Source, K: Sink>(
     alloc: Global,
     order: &[u8],
@@ -127,22 +181,21 @@ pub fn afs_play<V: Drives, S: Source, K: Sink>(
 ) -> Ended<V>
     requires alone { length scripts.old ≡ 1 }
     requires order { order.now ≡ [] }
-    ensures ends { EndsAs V.tells (V.size drives) (V.seen drives) (V.seen result.drives) (λ h. HalfFailed V.moment V.faults h drives result.drives)
-        (left_of S.left scripts.old) (Rose (faults_of S.faults scripts.old) (faults_of S.faults scripts.new)) (K.written out.old) (K.written out.new)
-        (Rose (K.faults out.old) (K.faults out.new)) result.journal result.status }
-    // Over a new store and a script in shape a call ends well where nothing failed, but for want of memory.
-    ensures complete { V.tells → NothingFailed (V.size drives) (V.seen drives) (λ h. HalfFailed V.moment V.faults h drives result.drives)
+    ensures ends { EndsAs V.tells (IsAtRest V.seen V.moment V.may_leave drives) (found (content_of (halves_seen V.seen drives)) (V.size drives)) (found (content_of (halves_seen V.seen result.drives)) (V.size result.drives))
+        (λ h. IsFailed (V.faults drives) (V.faults result.drives) (V.last_fault result.drives) (V.moment result.drives) (V.tells → IsServed (content_of (halves_seen V.seen drives)) (V.size drives) → ⊥) h) (left_of S.left scripts.old) (Rose (faults_of S.faults scripts.old) (faults_of S.faults scripts.new)) (K.written out.old) (K.written out.new) (Rose (K.faults out.old) (K.faults out.new)) result.journal result.status }
+    // Over the store that is served and a script in shape a call ends well where nothing failed, but for want of memory.
+    ensures complete { V.tells → NothingFailed (found (content_of (halves_seen V.seen drives)) (V.size drives))
+        (λ h. IsFailed (V.faults drives) (V.faults result.drives) (V.last_fault result.drives) (V.moment result.drives) (V.tells → IsServed (content_of (halves_seen V.seen drives)) (V.size drives) → ⊥) h)
         (left_of S.left scripts.old) (Rose (faults_of S.faults scripts.old) (faults_of S.faults scripts.new)) (Rose (K.faults out.old) (K.faults out.new)) → IsDone result.status }
     // Before the halves are looked at, no call of them is made.
     ensures untouched { IsBeforeOpening result.status → result.drives ≡ drives }
 {
     let _ = order;
-    let mut drives = drives;
     let mut account = Account::new(alloc);
-    let status = serve(alloc, &mut drives, &mut scripts[0], &mut account, out);
+    let played = serve(alloc, drives, &mut scripts[0], &mut account, out);
     Ended {
-        status,
-        drives,
+        status: played.status,
+        drives: played.drives,
         journal: account.into_journal(),
     }
 }
@@ -164,21 +217,20 @@ pub fn afs_words<V: Drives, S: Source, K: Sink>(
 ) -> Ended<V>
     ensures usage { IsUsage result.status → IsCommand words.now (length scripts.old) → ⊥ }
     ensures command { (IsCommand words.now (length scripts.old) → ⊥) → IsUsage result.status }
-    ensures play { IsCommand words.now (length scripts.old) → EndsAs V.tells (V.size drives) (V.seen drives) (V.seen result.drives) (λ h. HalfFailed V.moment V.faults h drives result.drives)
-        (left_of S.left scripts.old) (Rose (faults_of S.faults scripts.old) (faults_of S.faults scripts.new)) (K.written out.old) (K.written out.new)
-        (Rose (K.faults out.old) (K.faults out.new)) result.journal result.status }
+    ensures play { IsCommand words.now (length scripts.old) → EndsAs V.tells (IsAtRest V.seen V.moment V.may_leave drives) (found (content_of (halves_seen V.seen drives)) (V.size drives)) (found (content_of (halves_seen V.seen result.drives)) (V.size result.drives))
+        (λ h. IsFailed (V.faults drives) (V.faults result.drives) (V.last_fault result.drives) (V.moment result.drives) (V.tells → IsServed (content_of (halves_seen V.seen drives)) (V.size drives) → ⊥) h) (left_of S.left scripts.old) (Rose (faults_of S.faults scripts.old) (faults_of S.faults scripts.new)) (K.written out.old) (K.written out.new) (Rose (K.faults out.old) (K.faults out.new)) result.journal result.status }
     ensures untouched { IsBeforeOpening result.status → result.drives ≡ drives }
-    ensures unused { IsUsage result.status → (scripts.new ≡ scripts.old) × (result.journal.entries.items ≡ []) × (result.journal.doubt ≡ None)
+    ensures unused { IsUsage result.status → (scripts.new ≡ scripts.old) × IsNothingNoted result.journal
         × Prints (K.written out.old) (K.written out.new) (Rose (K.faults out.old) (K.faults out.new)) usage_text }
 {
     if is_play(words) && scripts.len() == 1 {
         afs_play(alloc, &[], drives, scripts, out)
     } else {
-        put_line(out, b"usage\n");
+        let status = end_usage(out);
         Ended {
-            status: Status::Usage,
+            status,
             drives,
-            journal: Account::new(alloc).into_journal(),
+            journal: empty_journal(alloc),
         }
     }
 }

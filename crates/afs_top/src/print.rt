@@ -1,58 +1,19 @@
-ghost use Rattle.std.specs.Prelude.{◌≡◌, ◌⊎◌, ◌≤◌, ◌++◌, [], ◌∷◌, length, List, ℕ, OnOk, OnErr, IfOk, IfErr, IsErrOf, codes};
-ghost use Rattle.std.specs.Io.KnownBytes.{Appends};
-ghost use Rattle.std.specs.List.{flat_map};
+ghost use Rattle.std.specs.Prelude.{◌≡◌, ◌≤◌, ◌++◌, length, OnOk, IfOk};
 ghost use Rattle.afs_base.specs.Causes.{Rose};
 ghost use Rattle.drives.specs.declared.device.Half.{Half};
-ghost use Rattle.script_text.specs.Front.{AppendsFront};
-ghost use Rattle.script_text.specs.ReplyText.{spaced};
-ghost use Rattle.afs_top.specs.Faults.{Prints};
-ghost use Rattle.afs_top.specs.Play.{FinishEnds, HaltEnds};
+ghost use Rattle.endings.specs.Printing.{HaltEnds};
+ghost use Rattle.endings.specs.Texts.{drive_text};
+ghost use Rattle.afs_top.specs.Play.{FinishEnds};
 ghost use Rattle.afs_top.specs.Stop.{stop_status};
+ghost use Rattle.endings.specs.declared.status.Status.{Status};
 ghost use Rattle.service_model.specs.Print.{answer_text};
-ghost use Rattle.afs_top.specs.Output.{drive_text, file_line, files_lines, memory_text, reply_lines, stop_text, text_of};
+ghost use Rattle.afs_top.specs.Output.{file_line, files_lines, reply_lines, stop_text};
 
-use crate::status::Status;
 use crate::stop::Stop;
 use drives::Half;
+use endings::{Status, drive_line, end_bad_store, end_memory, print_text, put_line};
 use script_text::{LineReply, Sink, print_reply};
-use std::alloc::{AllocError, AllocFailed, Global};
-
-/// Why a text was not printed whole.
-#[derive(Clone, Copy, Debug)]
-pub(crate) enum Unprinted {
-    /// The sink refused a line.
-    Sink,
-    /// There was not enough memory.
-    Memory,
-}
-
-/// Prints one line.
-fn put<K: Sink>(out: &mut K, line: &[u8]) -> Result<(), Unprinted>
-    ensures ok { OnOk result (Appends (K.written out.old) (K.written out.new) line.now) }
-    ensures err { OnErr result (AppendsFront (K.written out.old) (K.written out.new) line.now) }
-    ensures later { K.faults out.old ≤ K.faults out.new }
-    ensures cause { OnErr result (Rose (K.faults out.old) (K.faults out.new)) }
-    ensures only { IfErr result (λ e. e ≡ Unprinted.Sink) }
-{
-    match out.put(line) {
-        Ok(()) => Ok(()),
-        Err(_) => Err(Unprinted::Sink),
-    }
-}
-
-/// Prints these lines in turn, and ends at the first that is refused.
-fn put_all<K: Sink>(out: &mut K, lines: &[Vec<u8>]) -> Result<(), Unprinted>
-    ensures ok { OnOk result (Appends (K.written out.old) (K.written out.new) (text_of lines.now)) }
-    ensures err { OnErr result (AppendsFront (K.written out.old) (K.written out.new) (text_of lines.now)) }
-    ensures later { K.faults out.old ≤ K.faults out.new }
-    ensures cause { OnErr result (Rose (K.faults out.old) (K.faults out.new)) }
-    ensures only { IfErr result (λ e. e ≡ Unprinted.Sink) }
-{
-    for line in lines {
-        put(out, line)?;
-    }
-    Ok(())
-}
+use std::alloc::{AllocError, Global};
 
 /// The line that answers line `n` of client 1.
 fn answer_line(alloc: Global, n: u32, reply: &LineReply) -> Result<Vec<u8>, AllocError>
@@ -71,17 +32,13 @@ fn answer_line(alloc: Global, n: u32, reply: &LineReply) -> Result<Vec<u8>, Allo
 }
 
 /// Adds the answered lines of client 1, from line 1 on.
-fn add_answers(
-    alloc: Global,
-    replies: &[LineReply],
-    lines: &mut Vec<Vec<u8>>,
-) -> Result<(), AllocError>
+fn add_answers(alloc: Global, replies: &[LineReply], text: &mut Vec<u8>) -> Result<(), AllocError>
     requires { length replies.now ≤ 130 }
-    ensures { OnOk result (text_of lines.new.items ≡ text_of lines.old.items ++ reply_lines 1 replies.now) }
+    ensures { OnOk result (text.new.items ≡ text.old.items ++ reply_lines 1 replies.now) }
 {
     let mut n = 1u32;
     for reply in replies {
-        lines.push(answer_line(alloc, n, reply)?)?;
+        text.extend_from_slice(&answer_line(alloc, n, reply)?)?;
         n += 1;
     }
     Ok(())
@@ -101,82 +58,40 @@ fn file_line(alloc: Global, object: u32, serials: &[u64]) -> Result<Vec<u8>, All
     Ok(line)
 }
 
-/// Adds the lines of both files: the first has versions 1 to `last`, which is 1 or 2, and the second has version 1.
-fn add_files(alloc: Global, written: bool, lines: &mut Vec<Vec<u8>>) -> Result<(), AllocError>
-    ensures { OnOk result (text_of lines.new.items ≡ text_of lines.old.items ++ files_lines written) }
+/// Adds the lines of both files: the first has version 1, and version 2 where something was written; the second has version 1.
+fn add_files(alloc: Global, written: bool, text: &mut Vec<u8>) -> Result<(), AllocError>
+    ensures { OnOk result (text.new.items ≡ text.old.items ++ files_lines written) }
 {
     let first = if written {
         file_line(alloc, 1, &[1, 2])?
     } else {
         file_line(alloc, 1, &[1])?
     };
-    lines.push(first)?;
-    lines.push(file_line(alloc, 2, &[1])?)?;
+    text.extend_from_slice(&first)?;
+    text.extend_from_slice(&file_line(alloc, 2, &[1])?)?;
     Ok(())
 }
 
-/// Adds the line that names a half that failed.
-fn add_drive(alloc: Global, half: Half, lines: &mut Vec<Vec<u8>>) -> Result<(), AllocError>
-    ensures { OnOk result (text_of lines.new.items ≡ text_of lines.old.items ++ drive_text half) }
-{
-    let line = match half {
-        Half::A => Vec::from_slice(alloc, b"drive A\n")?,
-        Half::B => Vec::from_slice(alloc, b"drive B\n")?,
-    };
-    lines.push(line)?;
-    Ok(())
-}
-
-/// The lines of a run that was finished.
-fn finished_lines(
-    alloc: Global,
-    replies: &[LineReply],
-    written: bool,
-) -> Result<Vec<Vec<u8>>, AllocError>
+/// What a finished run prints.
+fn finished_text(alloc: Global, replies: &[LineReply], written: bool) -> Result<Vec<u8>, AllocError>
     requires { length replies.now ≤ 130 }
-    ensures { IfOk result (λ lines. text_of lines.items ≡ reply_lines 1 replies.now ++ files_lines written) }
+    ensures { IfOk result (λ text. text.items ≡ reply_lines 1 replies.now ++ files_lines written) }
 {
-    let mut lines = Vec::new(alloc);
-    add_answers(alloc, replies, &mut lines)?;
-    add_files(alloc, written, &mut lines)?;
-    Ok(lines)
+    let mut text = Vec::new(alloc);
+    add_answers(alloc, replies, &mut text)?;
+    add_files(alloc, written, &mut text)?;
+    Ok(text)
 }
 
-/// The lines of a run that a half stopped.
-fn stopped_lines(
-    alloc: Global,
-    replies: &[LineReply],
-    half: Half,
-) -> Result<Vec<Vec<u8>>, AllocError>
+/// What a run prints that a half stopped: the answered lines, and the half.
+fn stopped_text(alloc: Global, replies: &[LineReply], half: Half) -> Result<Vec<u8>, AllocError>
     requires { length replies.now ≤ 130 }
-    ensures { IfOk result (λ lines. text_of lines.items ≡ reply_lines 1 replies.now ++ drive_text half) }
+    ensures { IfOk result (λ text. text.items ≡ reply_lines 1 replies.now ++ drive_text half) }
 {
-    let mut lines = Vec::new(alloc);
-    add_answers(alloc, replies, &mut lines)?;
-    add_drive(alloc, half, &mut lines)?;
-    Ok(lines)
-}
-
-/// Prints a line for a status, which stays where it is refused.
-pub(crate) fn put_line<K: Sink>(out: &mut K, line: &[u8])
-    ensures prints { Prints (K.written out.old) (K.written out.new) (Rose (K.faults out.old) (K.faults out.new)) line.now }
-    ensures later { K.faults out.old ≤ K.faults out.new }
-{
-    match put(out, line) {
-        Ok(()) => {}
-        Err(_) => {}
-    }
-}
-
-/// Prints lines for a status, which stays where one is refused.
-fn put_lines<K: Sink>(out: &mut K, lines: &[Vec<u8>])
-    ensures prints { Prints (K.written out.old) (K.written out.new) (Rose (K.faults out.old) (K.faults out.new)) (text_of lines.now) }
-    ensures later { K.faults out.old ≤ K.faults out.new }
-{
-    match put_all(out, lines) {
-        Ok(()) => {}
-        Err(_) => {}
-    }
+    let mut text = Vec::new(alloc);
+    add_answers(alloc, replies, &mut text)?;
+    text.extend_from_slice(drive_line(half))?;
+    Ok(text)
 }
 
 /// Prints what a finished run prints, and says how the call ends.
@@ -190,15 +105,9 @@ pub(crate) fn finish<K: Sink>(
     ensures ends { FinishEnds (K.written out.old) (K.written out.new) (Rose (K.faults out.old) (K.faults out.new)) (reply_lines 1 replies.now ++ files_lines written) result }
     ensures later { K.faults out.old ≤ K.faults out.new }
 {
-    match finished_lines(alloc, replies, written) {
-        Ok(lines) => match put_all(out, &lines) {
-            Ok(()) => Status::Success,
-            Err(_) => Status::SinkFault,
-        },
-        Err(_) => {
-            put_line(out, b"memory\n");
-            Status::Memory
-        }
+    match finished_text(alloc, replies, written) {
+        Ok(text) => endings::finish(out, &text),
+        Err(_) => end_memory(out),
     }
 }
 
@@ -221,11 +130,9 @@ pub(crate) fn halt<K: Sink>(alloc: Global, out: &mut K, replies: &[LineReply], s
             put_line(out, b"bad store: unbuilt\n");
             Status::BadStore
         }
+        Stop::Bad { block, why } => end_bad_store(alloc, out, block, why),
         Stop::Drive(half) => halt_drive(alloc, out, replies, half),
-        Stop::Memory => {
-            put_line(out, b"memory\n");
-            Status::Memory
-        }
+        Stop::Memory => end_memory(out),
     }
 }
 
@@ -235,14 +142,11 @@ fn halt_drive<K: Sink>(alloc: Global, out: &mut K, replies: &[LineReply], half: 
     ensures ends { HaltEnds (K.written out.old) (K.written out.new) (Rose (K.faults out.old) (K.faults out.new)) (reply_lines 1 replies.now ++ drive_text half) Status.DriveFault result }
     ensures later { K.faults out.old ≤ K.faults out.new }
 {
-    match stopped_lines(alloc, replies, half) {
-        Ok(lines) => {
-            put_lines(out, &lines);
+    match stopped_text(alloc, replies, half) {
+        Ok(text) => {
+            print_text(out, &text);
             Status::DriveFault
         }
-        Err(_) => {
-            put_line(out, b"memory\n");
-            Status::Memory
-        }
+        Err(_) => end_memory(out),
     }
 }

@@ -1,21 +1,22 @@
-ghost use Rattle.std.specs.Prelude.{◌≡◌, ◌⊎◌, ◌+◌, ◌*◌, ◌<◌, ◌≤◌, ◌++◌, [], ◌∷◌, All, ℕ, Bool, Some, None, length, true, false, OnOk, OnErr, IfOk, IfErr, IsErrOf};
+ghost use Rattle.std.specs.Prelude.{◌≡◌, ◌+◌, ◌<◌, ◌≤◌, ◌++◌, [], ◌∷◌, All, ℕ, List, Ok, Some, None, length, true, OnOk, OnErr, IfOk, IfErr, IsErrOf, IsErrAnd};
 ghost use Rattle.drives.specs.declared.device.Half.{Half};
 ghost use Rattle.afs_top.specs.Course.{begun_entries, stepped_entries, held_entries, whole_entries, whole_answers, step_answers, is_written_by, entry, named, last_entries, last_serial, nothing_entries, commit_entries, IsCut, IsFront, IsPart};
 ghost use Rattle.afs_top.specs.Cut.{IsCutOff};
-ghost use Rattle.afs_top.specs.Faults.{HalfFailed, Later};
+ghost use Rattle.recovery.specs.Opening.{IsFailed};
+ghost use Rattle.store_model.specs.Found.{found};
 ghost use Rattle.afs_top.specs.Script.{IsRootStep};
-ghost use Rattle.afs_top.specs.Stop.{IsDriveStop, IsHalt};
-ghost use Rattle.afs_top.specs.Versions.{HasRun, IsCommitted, IsLinked};
-ghost use Rattle.service_model.specs.declared.journal.What.TheVariants.{Held};
+ghost use Rattle.afs_top.specs.Served.{HasNext, IsReady, committed_state, root_data, second_state};
+ghost use Rattle.afs_top.specs.Stop.{IsFault, IsHalt};
+ghost use Rattle.service_model.specs.declared.journal.What.TheVariants.{Held, Committed as CommittedWhat};
 ghost use Rattle.script_text.specs.declared.reply.LineReply.TheVariants.{Base, Committed};
 ghost use Rattle.tree_model.specs.Trees.{single, tree_after};
 
 use crate::account::Account;
 use crate::draft::Draft;
-use crate::pages::{FIRST, SECOND, linked_block, second_block, write_block};
-use crate::script::MAX_STEPS;
-use crate::stop::Stop;
-use drives::Drives;
+use crate::pages::second_block;
+use crate::served::Place;
+use crate::stop::{Stop, fault_stop};
+use pair_store::{Blocks, PairFault, Tas};
 use script_text::{LineReply, Serials};
 use service_model::{Entry, Named, Named17, What};
 use std::alloc::Global;
@@ -110,99 +111,180 @@ fn note_commit(line: u32, at: u64, account: &mut Account) -> Result<(), Stop>
     account.answer(line, LineReply::Committed(one_serial(FIRST_SERIAL + 1)))
 }
 
-/// Writes the page of the second version, and only then links it to the first. Where the link fails, it is in doubt.
-fn link<V: Drives>(
-    drives: &mut V,
-    draft: &Draft,
-    line: u32,
-    account: &mut Account,
-) -> Result<(), Stop>
-    requires { 64 ≤ V.size drives.old }
-    ensures linked { V.tells → OnOk result (IsLinked (V.seen drives.old) (V.seen drives.new) draft.now.flags draft.now.tree) }
-    ensures size { V.size drives.new ≡ V.size drives.old }
-    ensures later { Later V.moment V.faults drives.old drives.new }
-    ensures drive { (h : Half) → IsErrOf result (Stop.Drive h) → HalfFailed V.moment V.faults h drives.old drives.new }
-    ensures only { IfErr result IsDriveStop }
+/// Notes that the commit of the second version is in doubt.
+fn doubt_commit(line: u32, at: u64, account: &mut Account)
     ensures entries { account.new.journal.entries.items ≡ account.old.journal.entries.items }
     ensures replies { account.new.replies ≡ account.old.replies }
-    ensures sure { OnOk result (account.new.journal.doubt ≡ account.old.journal.doubt) }
-    ensures doubt { OnErr result (IsCutOff V.tells (V.seen drives.old) (V.seen drives.new) line (V.moment drives.new) account.old.journal.doubt account.new.journal.doubt) }
+    ensures doubt { account.new.journal.doubt ≡ Some (entry line (CommittedWhat (named 2 ∷ []) at)) }
 {
-    write_block(drives, SECOND, &second_block(draft))?;
-    match write_block(drives, FIRST, &linked_block()) {
+    let made = named(FIRST_SERIAL + 1);
+    account.doubt(line, What::Committed { made, at });
+}
+
+/// Writes the page of the second version into the free block, which changes no file that is found.
+fn write_page<B: Blocks>(store: &mut B, place: &Place, draft: &Draft) -> Result<(), Stop>
+    requires copied { draft.now.flags.copied ≡ true }
+    requires ready { B.tells → IsReady (B.content store.old) (B.size store.old) place.now.base place.now.free }
+    requires base { place.now.base < B.size store.old }
+    requires low { 1 ≤ place.now.base }
+    requires free { place.now.free < B.size store.old }
+    requires above { 1 ≤ place.now.free }
+    requires settled { B.tells → B.settled store.old place.now.base }
+    ensures next { B.tells → OnOk result (HasNext (B.content store.new) (B.size store.new) place.now.base place.now.free (root_data draft.now.tree)) }
+    ensures settles { B.tells → OnOk result (B.settled store.new place.now.base) }
+    ensures found { B.tells → (found (B.content store.new) (B.size store.new)) ≡ (found (B.content store.old) (B.size store.old)) }
+    ensures size { B.size store.new ≡ B.size store.old }
+    ensures later { (h : Half) → B.faults store.old h ≤ B.faults store.new h }
+    ensures stopped { (h : Half) → IsErrOf result (Stop.Drive h) → IsFailed (B.faults store.old) (B.faults store.new) (B.last_fault store.new) (B.moment store.new) (B.tells → ⊥) h }
+    ensures only { IfErr result (λ e. (h : Half) × (e ≡ Stop.Drive h)) }
+{
+    match store.write(place.free, &second_block(place.base, draft)) {
         Ok(()) => Ok(()),
-        Err(stop) => {
-            let made = named(FIRST_SERIAL + 1);
-            account.doubt(
-                line,
-                What::Committed {
-                    made,
-                    at: drives.now(),
-                },
-            );
-            Err(stop)
-        }
+        Err(fault) => Err(fault_stop(fault)),
     }
 }
 
-/// Commits what was written as the second version of file 1.
-fn commit_page<V: Drives>(
-    drives: &mut V,
+/// Sets the commit reference of the first version, once the page of the second one is written: by this one write the file has it.
+/// Where the write fails, the commit is in doubt.
+fn set_link<B: Blocks>(
+    store: &mut B,
+    place: &Place,
+    line: u32,
+    account: &mut Account,
+) -> Result<(), Stop>
+    requires next { B.tells → (bytes : List ℕ) × HasNext (B.content store.old) (B.size store.old) place.now.base place.now.free bytes }
+    requires base { place.now.base < B.size store.old }
+    requires low { 1 ≤ place.now.base }
+    requires free { place.now.free < B.size store.old }
+    requires above { 1 ≤ place.now.free }
+    requires settled { B.tells → B.settled store.old place.now.base }
+    ensures linked { B.tells → (bytes : List ℕ) → HasNext (B.content store.old) (B.size store.old) place.now.base place.now.free bytes → OnOk result ((found (B.content store.new) (B.size store.new)) ≡ Ok (second_state bytes)) }
+    ensures entries { account.new.journal.entries.items ≡ account.old.journal.entries.items }
+    ensures replies { account.new.replies ≡ account.old.replies }
+    ensures sure { OnOk result (account.new.journal.doubt ≡ account.old.journal.doubt) }
+    ensures doubt { (h : Half) → IsErrOf result (Stop.Drive h) → IsCutOff B.tells (found (B.content store.old) (B.size store.old)) (found (B.content store.new) (B.size store.new)) line (B.moment store.new) account.old.journal.doubt account.new.journal.doubt }
+    ensures changed { IsErrOf result Stop.Store → (B.tells → ⊥) × (account.new.journal.doubt ≡ account.old.journal.doubt) }
+    ensures size { B.size store.new ≡ B.size store.old }
+    ensures later { (h : Half) → B.faults store.old h ≤ B.faults store.new h }
+    ensures stopped { (h : Half) → IsErrOf result (Stop.Drive h) → IsFailed (B.faults store.old) (B.faults store.new) (B.last_fault store.new) (B.moment store.new) (B.tells → ⊥) h }
+    ensures only { IfErr result IsFault }
+{
+    match store.test_and_set(place.base, place.free) {
+        Ok(Tas::Set) => Ok(()),
+        Ok(Tas::Taken { .. }) => Err(Stop::Store),
+        Err(PairFault::WriteFault { half }) => {
+            doubt_commit(line, store.now(), account);
+            Err(Stop::Drive(half))
+        }
+        Err(PairFault::ReadFault { half }) => Err(Stop::Drive(half)),
+        Err(PairFault::BothClosed { .. }) => Err(Stop::Store),
+        Err(PairFault::BadPage { .. }) => Err(Stop::Store),
+    }
+}
+
+/// Writes the page of the second version, and only then links it to the first. Where the link fails, it is in doubt.
+fn link<B: Blocks>(
+    store: &mut B,
+    place: &Place,
     draft: &Draft,
     line: u32,
     account: &mut Account,
 ) -> Result<(), Stop>
-    requires { 64 ≤ V.size drives.old }
-    ensures linked { V.tells → OnOk result (IsLinked (V.seen drives.old) (V.seen drives.new) draft.now.flags draft.now.tree) }
-    ensures size { V.size drives.new ≡ V.size drives.old }
-    ensures later { Later V.moment V.faults drives.old drives.new }
-    ensures drive { (h : Half) → IsErrOf result (Stop.Drive h) → HalfFailed V.moment V.faults h drives.old drives.new }
+    requires copied { draft.now.flags.copied ≡ true }
+    requires ready { B.tells → IsReady (B.content store.old) (B.size store.old) place.now.base place.now.free }
+    requires base { place.now.base < B.size store.old }
+    requires low { 1 ≤ place.now.base }
+    requires free { place.now.free < B.size store.old }
+    requires above { 1 ≤ place.now.free }
+    requires settled { B.tells → B.settled store.old place.now.base }
+    ensures linked { B.tells → OnOk result ((found (B.content store.new) (B.size store.new)) ≡ Ok (second_state (root_data draft.now.tree))) }
+    ensures entries { account.new.journal.entries.items ≡ account.old.journal.entries.items }
+    ensures replies { account.new.replies ≡ account.old.replies }
+    ensures sure { OnOk result (account.new.journal.doubt ≡ account.old.journal.doubt) }
+    ensures doubt { (h : Half) → IsErrOf result (Stop.Drive h) → IsCutOff B.tells (found (B.content store.old) (B.size store.old)) (found (B.content store.new) (B.size store.new)) line (B.moment store.new) account.old.journal.doubt account.new.journal.doubt }
+    ensures changed { IsErrOf result Stop.Store → (B.tells → ⊥) × (account.new.journal.doubt ≡ account.old.journal.doubt) }
+    ensures size { B.size store.new ≡ B.size store.old }
+    ensures later { (h : Half) → B.faults store.old h ≤ B.faults store.new h }
+    ensures stopped { (h : Half) → IsErrOf result (Stop.Drive h) → IsFailed (B.faults store.old) (B.faults store.new) (B.last_fault store.new) (B.moment store.new) (B.tells → ⊥) h }
+    ensures only { IfErr result IsFault }
+{
+    write_page(store, place, draft)?;
+    set_link(store, place, line, account)
+}
+
+/// Commits what was written as the second version of file 1.
+fn commit_page<B: Blocks>(
+    store: &mut B,
+    place: &Place,
+    draft: &Draft,
+    line: u32,
+    account: &mut Account,
+) -> Result<(), Stop>
+    requires copied { draft.now.flags.copied ≡ true }
+    requires ready { B.tells → IsReady (B.content store.old) (B.size store.old) place.now.base place.now.free }
+    requires base { place.now.base < B.size store.old }
+    requires low { 1 ≤ place.now.base }
+    requires free { place.now.free < B.size store.old }
+    requires above { 1 ≤ place.now.free }
+    requires settled { B.tells → B.settled store.old place.now.base }
+    ensures linked { B.tells → OnOk result ((found (B.content store.new) (B.size store.new)) ≡ Ok (second_state (root_data draft.now.tree))) }
+    ensures size { B.size store.new ≡ B.size store.old }
+    ensures later { (h : Half) → B.faults store.old h ≤ B.faults store.new h }
+    ensures stopped { (h : Half) → IsErrOf result (Stop.Drive h) → IsFailed (B.faults store.old) (B.faults store.new) (B.last_fault store.new) (B.moment store.new) (B.tells → ⊥) h }
     ensures only { IfErr result IsHalt }
-    ensures entries { OnOk result (account.new.journal.entries.items ≡ account.old.journal.entries.items ++ entry line (Held 1) ∷ [] ++ commit_entries line (V.moment drives.new)) }
+    ensures entries { OnOk result (account.new.journal.entries.items ≡ account.old.journal.entries.items ++ entry line (Held 1) ∷ [] ++ commit_entries line (B.moment store.new)) }
     ensures replies { OnOk result (account.new.replies.items ≡ account.old.replies.items ++ Committed (2 ∷ []) ∷ []) }
     ensures sure { OnOk result (account.new.journal.doubt ≡ account.old.journal.doubt) }
-    ensures cut { (h : Half) → IsErrOf result (Stop.Drive h) → account.new.journal.entries.items ≡ account.old.journal.entries.items ++ entry line (Held 1) ∷ [] }
-    ensures told { (h : Half) → IsErrOf result (Stop.Drive h) → account.new.replies ≡ account.old.replies }
-    ensures doubt { (h : Half) → IsErrOf result (Stop.Drive h) → IsCutOff V.tells (V.seen drives.old) (V.seen drives.new) line (V.moment drives.new) account.old.journal.doubt account.new.journal.doubt }
+    ensures cut { IsErrAnd result IsFault → account.new.journal.entries.items ≡ account.old.journal.entries.items ++ entry line (Held 1) ∷ [] }
+    ensures told { IsErrAnd result IsFault → account.new.replies ≡ account.old.replies }
+    ensures doubt { (h : Half) → IsErrOf result (Stop.Drive h) → IsCutOff B.tells (found (B.content store.old) (B.size store.old)) (found (B.content store.new) (B.size store.new)) line (B.moment store.new) account.old.journal.doubt account.new.journal.doubt }
+    ensures changed { IsErrOf result Stop.Store → (B.tells → ⊥) × (account.new.journal.doubt ≡ account.old.journal.doubt) }
     ensures memory { IsErrOf result Stop.Memory → (at : ℕ) × IsPart account.old.journal.entries.items (entry line (Held 1) ∷ commit_entries line at) account.new.journal.entries.items }
     ensures memory_sure { IsErrOf result Stop.Memory → account.new.journal.doubt ≡ account.old.journal.doubt }
 {
     account.note(line, What::Held { blocks: 1 })?;
-    link(drives, draft, line, account)?;
-    note_commit(line, drives.now(), account)
+    link(store, place, draft, line, account)?;
+    note_commit(line, store.now(), account)
 }
 
 /// Commits the update: what was written becomes the second version of file 1, and where nothing was, no version is made.
 /// Says whether one was.
-fn commit<V: Drives>(
-    drives: &mut V,
+fn commit<B: Blocks>(
+    store: &mut B,
+    place: &Place,
     draft: &Draft,
     line: u32,
     account: &mut Account,
 ) -> Result<bool, Stop>
-    requires { 64 ≤ V.size drives.old }
+    requires ready { B.tells → IsReady (B.content store.old) (B.size store.old) place.now.base place.now.free }
+    requires base { place.now.base < B.size store.old }
+    requires low { 1 ≤ place.now.base }
+    requires free { place.now.free < B.size store.old }
+    requires above { 1 ≤ place.now.free }
+    requires settled { B.tells → B.settled store.old place.now.base }
     ensures written { IfOk result (λ written. written ≡ draft.now.flags.written) }
-    ensures linked { V.tells → OnOk result (IsCommitted draft.now.flags.written (V.seen drives.old) (V.seen drives.new) draft.now.flags draft.now.tree) }
-    ensures size { V.size drives.new ≡ V.size drives.old }
-    ensures later { Later V.moment V.faults drives.old drives.new }
-    ensures drive { (h : Half) → IsErrOf result (Stop.Drive h) → HalfFailed V.moment V.faults h drives.old drives.new }
+    ensures linked { B.tells → OnOk result ((found (B.content store.new) (B.size store.new)) ≡ Ok (committed_state draft.now.flags.written draft.now.tree)) }
+    ensures size { B.size store.new ≡ B.size store.old }
+    ensures later { (h : Half) → B.faults store.old h ≤ B.faults store.new h }
+    ensures stopped { (h : Half) → IsErrOf result (Stop.Drive h) → IsFailed (B.faults store.old) (B.faults store.new) (B.last_fault store.new) (B.moment store.new) (B.tells → ⊥) h }
     ensures only { IfErr result IsHalt }
-    ensures entries { OnOk result (account.new.journal.entries.items ≡ account.old.journal.entries.items ++ last_entries draft.now.flags.written line (V.moment drives.new)) }
+    ensures entries { OnOk result (account.new.journal.entries.items ≡ account.old.journal.entries.items ++ last_entries draft.now.flags.written line (B.moment store.new)) }
     ensures replies { OnOk result (account.new.replies.items ≡ account.old.replies.items ++ Committed (last_serial draft.now.flags.written ∷ []) ∷ []) }
     ensures sure { OnOk result (account.new.journal.doubt ≡ account.old.journal.doubt) }
-    ensures cut { (h : Half) → IsErrOf result (Stop.Drive h) → IsCut draft.now.flags.written line account.old.journal.entries.items account.new.journal.entries.items }
-    ensures told { (h : Half) → IsErrOf result (Stop.Drive h) → account.new.replies ≡ account.old.replies }
-    ensures doubt { (h : Half) → IsErrOf result (Stop.Drive h) → IsCutOff V.tells (V.seen drives.old) (V.seen drives.new) line (V.moment drives.new) account.old.journal.doubt account.new.journal.doubt }
+    ensures cut { IsErrAnd result IsFault → IsCut draft.now.flags.written line account.old.journal.entries.items account.new.journal.entries.items }
+    ensures told { IsErrAnd result IsFault → account.new.replies ≡ account.old.replies }
+    ensures doubt { (h : Half) → IsErrOf result (Stop.Drive h) → IsCutOff B.tells (found (B.content store.old) (B.size store.old)) (found (B.content store.new) (B.size store.new)) line (B.moment store.new) account.old.journal.doubt account.new.journal.doubt }
+    ensures changed { IsErrOf result Stop.Store → (B.tells → ⊥) × (account.new.journal.doubt ≡ account.old.journal.doubt) }
     ensures memory { IsErrOf result Stop.Memory → (at : ℕ) × IsPart account.old.journal.entries.items (last_entries draft.now.flags.written line at) account.new.journal.entries.items }
     ensures memory_sure { IsErrOf result Stop.Memory → account.new.journal.doubt ≡ account.old.journal.doubt }
 {
     if draft.flags.written() {
-        match commit_page(drives, draft, line, account) {
+        match commit_page(store, place, draft, line, account) {
             Ok(()) => Ok(true),
             Err(stop) => Err(stop),
         }
     } else {
-        match commit_nothing(line, drives.now(), account) {
+        match commit_nothing(line, store.now(), account) {
             Ok(()) => Ok(false),
             Err(stop) => Err(stop),
         }
@@ -211,35 +293,42 @@ fn commit<V: Drives>(
 
 /// Plays the update: opens it, takes its steps and commits it, and says whether it made a version. What was done and
 /// answered is in the account, after a stop too.
-pub(crate) fn run<V: Drives>(
+pub(crate) fn run<B: Blocks>(
     alloc: Global,
-    drives: &mut V,
+    store: &mut B,
+    place: &Place,
     steps: &[Step],
     account: &mut Account,
 ) -> Result<bool, Stop>
-    requires room { 64 ≤ V.size drives.old }
+    requires ready { B.tells → IsReady (B.content store.old) (B.size store.old) place.now.base place.now.free }
+    requires base { place.now.base < B.size store.old }
+    requires low { 1 ≤ place.now.base }
+    requires free { place.now.free < B.size store.old }
+    requires above { 1 ≤ place.now.free }
+    requires settled { B.tells → B.settled store.old place.now.base }
     requires few { length steps.now ≤ 128 }
     requires root { All IsRootStep steps.now }
     requires entries { account.old.journal.entries.items ≡ [] }
     requires replies { account.old.replies.items ≡ [] }
     requires doubt { account.old.journal.doubt ≡ None }
     ensures written { IfOk result (λ written. written ≡ is_written_by steps.now) }
-    ensures linked { V.tells → OnOk result (HasRun (is_written_by steps.now) (V.seen drives.old) (V.seen drives.new) steps.now) }
-    ensures size { V.size drives.new ≡ V.size drives.old }
-    ensures later { Later V.moment V.faults drives.old drives.new }
-    ensures drive { (h : Half) → IsErrOf result (Stop.Drive h) → HalfFailed V.moment V.faults h drives.old drives.new }
+    ensures linked { B.tells → OnOk result ((found (B.content store.new) (B.size store.new)) ≡ Ok (committed_state (is_written_by steps.now) (tree_after single steps.now))) }
+    ensures size { B.size store.new ≡ B.size store.old }
+    ensures later { (h : Half) → B.faults store.old h ≤ B.faults store.new h }
+    ensures stopped { (h : Half) → IsErrOf result (Stop.Drive h) → IsFailed (B.faults store.old) (B.faults store.new) (B.last_fault store.new) (B.moment store.new) (B.tells → ⊥) h }
     ensures only { IfErr result IsHalt }
-    ensures entries { OnOk result (account.new.journal.entries.items ≡ whole_entries (is_written_by steps.now) (length steps.now) (V.moment drives.new)) }
+    ensures entries { OnOk result (account.new.journal.entries.items ≡ whole_entries (is_written_by steps.now) (length steps.now) (B.moment store.new)) }
     ensures replies { OnOk result (account.new.replies.items ≡ whole_answers (is_written_by steps.now) steps.now) }
     ensures sure { OnOk result (account.new.journal.doubt ≡ None) }
-    ensures cut { (h : Half) → IsErrOf result (Stop.Drive h) → (is_written_by steps.now ≡ true) × (account.new.journal.entries.items ≡ held_entries (length steps.now)) }
-    ensures told { (h : Half) → IsErrOf result (Stop.Drive h) → account.new.replies.items ≡ step_answers steps.now }
-    ensures doubt { (h : Half) → IsErrOf result (Stop.Drive h) → IsCutOff V.tells (V.seen drives.old) (V.seen drives.new) (length steps.now + 2) (V.moment drives.new) None account.new.journal.doubt }
+    ensures cut { IsErrAnd result IsFault → (is_written_by steps.now ≡ true) × (account.new.journal.entries.items ≡ held_entries (length steps.now)) }
+    ensures told { IsErrAnd result IsFault → account.new.replies.items ≡ step_answers steps.now }
+    ensures doubt { (h : Half) → IsErrOf result (Stop.Drive h) → IsCutOff B.tells (found (B.content store.old) (B.size store.old)) (found (B.content store.new) (B.size store.new)) (length steps.now + 2) (B.moment store.new) None account.new.journal.doubt }
+    ensures changed { IsErrOf result Stop.Store → (B.tells → ⊥) × (account.new.journal.doubt ≡ None) }
     ensures memory { IsErrOf result Stop.Memory → (at : ℕ) × IsFront account.new.journal.entries.items (whole_entries (is_written_by steps.now) (length steps.now) at) }
     ensures memory_sure { IsErrOf result Stop.Memory → account.new.journal.doubt ≡ None }
 {
     begin(account)?;
     let draft = take_steps(alloc, steps, account)?;
     let line = steps.len() as u32 + 2;
-    commit(drives, &draft, line, account)
+    commit(store, place, &draft, line, account)
 }

@@ -1,1 +1,10 @@
 pub mod Mends
+pub mod Heads
+pub mod Links
+pub mod Tops
+pub mod Rolls
+pub mod Writes
+pub mod Commits
+pub mod KnownLaws
+pub mod Openings
+pub mod PairOpenings

@@ -1,1 +1,4 @@
 pub mod Mended
+pub mod Opening
+pub mod Rolling
+pub mod Known

@@ -1,17 +1,26 @@
-use Rattle.std.proofs.Common.{◌≡◌, Bool, List, ◌++◌, length, refl, ap, subst, ◌∙◌, Err, IsErrOf, arith}
+use Rattle.std.proofs.Common.{◌≡◌, Bool, List, Result, ◌++◌, length, refl, ap, sym, subst, ◌∙◌, Err, IsErrOf, IsErrAnd, arith}
 use Rattle.script_text.specs.declared.reply.LineReply.{LineReply}
 use Rattle.afs_base.specs.Causes.{Rose}
+use Rattle.endings.specs.Printing.{HaltEnds}
+use Rattle.recovery.specs.Opening.{IsFailed}
+use Rattle.store_model.specs.Found.{found}
 use Rattle.afs_top.specs.declared.stop.Stop.{Stop}
-use Rattle.afs_top.specs.declared.stop.Stop.TheVariants.{Source, Script, Store, Drive, Memory}
+use Rattle.afs_top.specs.declared.stop.Stop.TheVariants.{Source, Script, Store, Bad, Drive, Memory}
 use Rattle.drives.specs.declared.device.Half.{Half}
 use Rattle.afs_top.specs.Course.{is_written_by, whole_answers}
-use Rattle.afs_top.specs.Faults.{HalfFailed}
 use Rattle.afs_top.specs.Output.{files_lines, reply_lines, stop_text}
-use Rattle.afs_top.specs.Play.{EndsAs, FinishEnds, HaltEnds}
-use Rattle.afs_top.specs.Stop.{IsHalt, stop_status}
+use Rattle.afs_top.specs.Play.{EndsAs, FinishEnds}
+use Rattle.afs_top.specs.Served.{IsServed}
+use Rattle.afs_top.specs.Stop.{IsFault, IsHalt, stop_status}
+use Rattle.afs_top.proofs.Failing.{failed_earlier}
 use Rattle.afs_top.proofs.Journal.{step_answers-length, whole_answers-length}
-use Rattle.afs_top.proofs.Ends.{ends_drive, ends_finish, ends_memory}
+use Rattle.afs_top.proofs.Second.{ready_found}
+use Rattle.afs_top.proofs.Ends.{ends_changed, ends_drive, ends_finish, ends_memory}
 use Rattle.afs_top.proofs.play.play_opened.Goals as goal
+
+-- a run that stopped with this fault
+stopped : {T : Type 0} (r : Result T Stop) (s : Stop) → r ≡ Err s → IsFault s → IsErrAnd r IsFault
+stopped {T} r s is fault = let F : Result T Stop → Type 0 = λ x. IsErrAnd x IsFault in subst F (sym is) fault
 
 pub finish-requires : goal.finish-requires
 finish-requires g c =
@@ -21,7 +30,7 @@ finish-requires g c =
 pub halt-requires : goal.halt-requires
 halt-requires g c = λ h is.
     let out : IsErrOf c.run.result (Drive h) = c.in-Err.is ∙ ap (λ (s : Stop). Err s) is in
-    let count = ap (λ (rs : List LineReply). length rs) (c.deref-in-Err.ensures.value ∙ c.run.ensures.told h out) in
+    let count = ap (λ (rs : List LineReply). length rs) (c.deref-in-Err.ensures.value ∙ c.run.ensures.told (stopped c.run.result (Drive h) out tt)) in
     omega (arith, count, step_answers-length c.args.steps.now, c.requires.few)
 
 pub returns-in-Ok-clause-ends : goal.returns-in-Ok-clause-ends
@@ -29,12 +38,16 @@ returns-in-Ok-clause-ends g c = λ left script.
     let old = g.K.Sink.written c.args.out.now in
     let new = g.K.Sink.written c.finish.new.out in
     let rose = Rose (g.K.Sink.faults c.args.out.now) (g.K.Sink.faults c.finish.new.out) in
+    let content = g.B.Blocks.content c.args.store.now in
+    let size = g.B.Blocks.size c.args.store.now in
     let R : List LineReply → Type 0 = λ rs. FinishEnds old new rose (reply_lines 1 rs ++ files_lines c.in-Ok.written) c.finish.result in
     let W : Bool → Type 0 = λ b. FinishEnds old new rose (reply_lines 1 (whole_answers (is_written_by c.args.steps.now) c.args.steps.now) ++ files_lines b) c.finish.result in
     let replies = subst R (c.deref.ensures.value ∙ c.in-Ok.ensures.replies) c.finish.ensures.ends in
-    ends_finish g.V.Drives.tells (g.V.Drives.size c.args.drives.now) (g.V.Drives.seen c.args.drives.now) (g.V.Drives.seen c.run.new.drives)
-    (λ h. HalfFailed g.V.Drives.moment g.V.Drives.faults h c.args.drives.now c.run.new.drives) left ⊥ old new rose c.run.new.account.journal
-    c.args.steps.now (g.V.Drives.moment c.run.new.drives) c.finish.result script c.requires.root c.requires.few c.requires.new c.in-Ok.ensures.linked
+    ends_finish g.B.Blocks.tells (Unit {0}) (found content size) (found (g.B.Blocks.content c.run.new.store) (g.B.Blocks.size c.run.new.store))
+    (λ h. IsFailed (g.B.Blocks.faults c.args.store.now) (g.B.Blocks.faults c.run.new.store) (g.B.Blocks.last_fault c.run.new.store) (g.B.Blocks.moment c.run.new.store) (g.B.Blocks.tells → IsServed content size → ⊥) h)
+    left ⊥ old new rose c.run.new.account.journal
+    c.args.steps.now (g.B.Blocks.moment c.run.new.store) c.finish.result script c.requires.root c.requires.few
+    (λ t. ready_found content size c.args.place.now.base c.args.place.now.free (c.requires.ready t)) c.in-Ok.ensures.linked
     c.in-Ok.ensures.entries c.in-Ok.ensures.sure (subst W c.in-Ok.ensures.written replies)
 
 pub returns-in-Err-clause-ends : goal.returns-in-Err-clause-ends
@@ -45,24 +58,39 @@ returns-in-Err-clause-ends g c = λ left script.
     let old = g.K.Sink.written c.args.out.now in
     let new = g.K.Sink.written c.halt.new.out in
     let rose = Rose (g.K.Sink.faults c.args.out.now) (g.K.Sink.faults c.halt.new.out) in
-    let failed : Half → Type 0 = λ h. HalfFailed g.V.Drives.moment g.V.Drives.faults h c.args.drives.now c.run.new.drives in
-    let Ends : Type 0 = EndsAs g.V.Drives.tells (g.V.Drives.size c.args.drives.now) (g.V.Drives.seen c.args.drives.now) (g.V.Drives.seen c.run.new.drives) failed left ⊥ old new rose journal status in
+    let tells = g.B.Blocks.tells in
+    let content = g.B.Blocks.content c.args.store.now in
+    let size = g.B.Blocks.size c.args.store.now in
+    let before = found content size in
+    let after = found (g.B.Blocks.content c.run.new.store) (g.B.Blocks.size c.run.new.store) in
+    let failed : Half → Type 0 = λ h. IsFailed (g.B.Blocks.faults c.args.store.now) (g.B.Blocks.faults c.run.new.store) (g.B.Blocks.last_fault c.run.new.store) (g.B.Blocks.moment c.run.new.store)
+    (tells → IsServed content size → ⊥) h in
+    let Ends : Type 0 = EndsAs tells (Unit {0}) before after failed left ⊥ old new rose journal status in
     let H : List LineReply → Stop → Type 0 = λ rs s. HaltEnds old new rose (stop_text rs s) (stop_status s) status in
     let At : Stop → Type 0 = λ s. H c.deref-in-Err.result.now s in
     (elim c.in-Err.stop as (λ s. c.in-Err.stop ≡ s → IsHalt s → Ends) [
       | Source ↦ λ is only. absurd only
       | Script ↦ λ is only. absurd only
-      | Store ↦ λ is only. absurd only
+      | Store ↦ λ is only.
+          let out : IsErrOf c.run.result Store = c.in-Err.is ∙ ap (λ (s : Stop). Err s) is in
+          let cut = c.run.ensures.cut (stopped c.run.result Store out tt) in
+          let changed = c.run.ensures.changed out in
+          ends_changed tells (Unit {0}) before after failed left ⊥ old new rose journal steps status script c.requires.root c.requires.few changed.0 cut.0 cut.1 changed.1
+          (subst At is c.halt.ensures.ends)
+      | Bad block why ↦ λ is only. absurd only
       | Drive h ↦ λ is only.
           let out : IsErrOf c.run.result (Drive h) = c.in-Err.is ∙ ap (λ (s : Stop). Err s) is in
-          let cut = c.run.ensures.cut h out in
+          let fault = stopped c.run.result (Drive h) out tt in
+          let cut = c.run.ensures.cut fault in
           let Told : List LineReply → Type 0 = λ rs. H rs (Drive h) in
-          ends_drive g.V.Drives.tells (g.V.Drives.size c.args.drives.now) (g.V.Drives.seen c.args.drives.now) (g.V.Drives.seen c.run.new.drives) failed left ⊥ old new rose journal
-          steps h (g.V.Drives.moment c.run.new.drives) status script c.requires.root c.requires.few (c.run.ensures.drive h out) cut.0 cut.1 (c.run.ensures.doubt h out)
-          (subst Told (c.deref-in-Err.ensures.value ∙ c.run.ensures.told h out) (subst At is c.halt.ensures.ends))
+          let broken = failed_earlier (g.B.Blocks.faults c.args.store.now) (g.B.Blocks.faults c.run.new.store) (g.B.Blocks.last_fault c.run.new.store) (g.B.Blocks.moment c.run.new.store) h
+          (g.B.Blocks.faults c.args.store.now) (tells → ⊥) (tells → IsServed content size → ⊥) (omega arith) (λ no t served. no t) (c.run.ensures.stopped h out) in
+          ends_drive tells (Unit {0}) before after failed left ⊥ old new rose journal
+          steps h (g.B.Blocks.moment c.run.new.store) status script c.requires.root c.requires.few broken cut.0 cut.1 (c.run.ensures.doubt h out)
+          (subst Told (c.deref-in-Err.ensures.value ∙ c.run.ensures.told fault) (subst At is c.halt.ensures.ends))
       | Memory ↦ λ is only.
           let out : IsErrOf c.run.result Memory = c.in-Err.is ∙ ap (λ (s : Stop). Err s) is in
           let noted = c.run.ensures.memory out in
-          ends_memory g.V.Drives.tells (g.V.Drives.size c.args.drives.now) (g.V.Drives.seen c.args.drives.now) (g.V.Drives.seen c.run.new.drives) failed left ⊥ old new rose journal
+          ends_memory tells (Unit {0}) before after failed left ⊥ old new rose journal
           steps noted.0 status script c.requires.root c.requires.few noted.1 (c.run.ensures.memory_sure out) (subst At is c.halt.ensures.ends)
     ]) refl c.in-Err.ensures.only

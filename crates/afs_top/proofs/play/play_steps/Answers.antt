@@ -1,56 +1,80 @@
-use Rattle.std.proofs.Common.{◌≡◌, refl, List, [], ap, subst, ◌∙◌, Err, IsErrOf}
+use Rattle.std.proofs.Common.{◌≡◌, ◌⊎◌, inl, inr, List, [], refl, ap, sym, subst, ◌∙◌, Result}
 use Rattle.afs_base.specs.Causes.{Rose}
 use Rattle.drives.specs.declared.device.Half.{Half}
+use Rattle.drives.specs.Changes.{IsAtRest, halves_seen}
+use Rattle.endings.specs.Printing.{HaltEnds}
+use Rattle.pair_store.specs.Content.{content_of}
+use Rattle.recovery.specs.Opening.{IsFailed}
 use Rattle.script_text.specs.declared.reply.LineReply.{LineReply}
+use Rattle.store_model.specs.Found.{found}
 use Rattle.afs_top.specs.declared.stop.Stop.{Stop}
-use Rattle.afs_top.specs.declared.stop.Stop.TheVariants.{Source, Script, Store, Drive, Memory}
-use Rattle.afs_top.specs.Faults.{HalfFailed}
+use Rattle.afs_top.specs.declared.stop.Stop.TheVariants.{Source, Script, Store, Bad, Drive, Memory}
+use Rattle.afs_top.specs.Opening.{IsUnserved, IsUntornStop}
 use Rattle.afs_top.specs.Output.{stop_text}
-use Rattle.afs_top.specs.Play.{EndsAs, HaltEnds}
-use Rattle.afs_top.specs.Stop.{IsOpenStop, stop_status}
-use Rattle.afs_top.proofs.Ends.{ends_earlier, ends_stopped, ends_store, ends_unopened, failed_earlier}
+use Rattle.afs_top.specs.Play.{EndsAs}
+use Rattle.afs_top.specs.Served.{IsServed}
+use Rattle.afs_top.specs.Stop.{stop_status}
+use Rattle.afs_top.proofs.Ends.{ends_bad, ends_earlier, ends_stopped, ends_store, ends_unopened}
+use Rattle.afs_top.proofs.Failing.{failed_earlier}
 use Rattle.afs_top.proofs.play.play_steps.Goals as goal
 
 pub returns-in-Ok-clause-ends : goal.returns-in-Ok-clause-ends
 returns-in-Ok-clause-ends g c = λ left script.
-    ends_earlier g.V.Drives.tells (g.V.Drives.size c.open.new.drives) (g.V.Drives.seen c.open.new.drives) (g.V.Drives.seen c.play_opened.new.drives)
-    (λ h. HalfFailed g.V.Drives.moment g.V.Drives.faults h c.open.new.drives c.play_opened.new.drives) left ⊥
-    (g.K.Sink.written c.args.out.now) (g.K.Sink.written c.play_opened.new.out) (Rose (g.K.Sink.faults c.args.out.now) (g.K.Sink.faults c.play_opened.new.out)) c.play_opened.new.account.journal
-    (g.V.Drives.size c.args.drives.now) (g.V.Drives.seen c.args.drives.now)
-    (λ h. HalfFailed g.V.Drives.moment g.V.Drives.faults h c.args.drives.now c.play_opened.new.drives) ⊥ c.play_opened.result
-    c.open.ensures.size c.open.ensures.same
-    (λ h. failed_earlier (g.V.Drives.faults c.args.drives.now h) (g.V.Drives.faults c.open.new.drives h) (g.V.Drives.faults c.play_opened.new.drives h) (g.V.Drives.moment c.play_opened.new.drives) (c.open.ensures.later.counts h))
-    (λ x. x) (c.play_opened.ensures.ends left script)
+    let tells = g.V.Drives.tells in
+    let mid = c.in-Ok.served.pair.drives in
+    let end = c.play_served.result.drives in
+    let old = g.K.Sink.written c.args.out.now in
+    let new = g.K.Sink.written c.play_served.new.out in
+    let rose = Rose (g.K.Sink.faults c.args.out.now) (g.K.Sink.faults c.play_served.new.out) in
+    let before = found (content_of (halves_seen g.V.Drives.seen c.args.drives)) (g.V.Drives.size c.args.drives) in
+    let opened = found (content_of (halves_seen g.V.Drives.seen mid)) (g.V.Drives.size mid) in
+    let Served : Type 0 = IsServed (content_of (halves_seen g.V.Drives.seen c.args.drives)) (g.V.Drives.size c.args.drives) in
+    let Later : Type 0 = IsServed (content_of (halves_seen g.V.Drives.seen mid)) (g.V.Drives.size mid) in
+    ends_earlier tells (Unit {0}) opened (found (content_of (halves_seen g.V.Drives.seen end)) (g.V.Drives.size end))
+    (λ h. IsFailed (g.V.Drives.faults mid) (g.V.Drives.faults end) (g.V.Drives.last_fault end) (g.V.Drives.moment end) (tells → Later → ⊥) h) left ⊥
+    old new rose c.play_served.new.account.journal
+    (IsAtRest g.V.Drives.seen g.V.Drives.moment g.V.Drives.may_leave c.args.drives) before
+    (λ h. IsFailed (g.V.Drives.faults c.args.drives) (g.V.Drives.faults end) (g.V.Drives.last_fault end) (g.V.Drives.moment end) (tells → Served → ⊥) h) ⊥ c.play_served.result.status
+    (λ rest. tt) (λ t. c.in-Ok.ensures.same t (inr tt))
+    (λ h. failed_earlier (g.V.Drives.faults mid) (g.V.Drives.faults end) (g.V.Drives.last_fault end) (g.V.Drives.moment end) h (g.V.Drives.faults c.args.drives)
+    (tells → Later → ⊥) (tells → Served → ⊥) (c.in-Ok.ensures.later h) (λ no t served. no t (c.in-Ok.ensures.same t (inr tt) ∙ served)))
+    (λ x. x) (c.play_served.ensures.ends left script)
 
 pub returns-in-Err-clause-ends : goal.returns-in-Err-clause-ends
 returns-in-Err-clause-ends g c = λ left script.
     let steps = c.args.steps.now in
     let tells = g.V.Drives.tells in
-    let blocks = g.V.Drives.size c.args.drives.now in
-    let before = g.V.Drives.seen c.args.drives.now in
-    let after = g.V.Drives.seen c.open.new.drives in
-    let failed : Half → Type 0 = λ h. HalfFailed g.V.Drives.moment g.V.Drives.faults h c.args.drives.now c.open.new.drives in
+    let end = c.in-Err.unserved.drives in
+    let stop = c.in-Err.unserved.stop in
+    let rest = IsAtRest g.V.Drives.seen g.V.Drives.moment g.V.Drives.may_leave c.args.drives in
+    let before = found (content_of (halves_seen g.V.Drives.seen c.args.drives)) (g.V.Drives.size c.args.drives) in
+    let after = found (content_of (halves_seen g.V.Drives.seen end)) (g.V.Drives.size end) in
+    let Served : Type 0 = IsServed (content_of (halves_seen g.V.Drives.seen c.args.drives)) (g.V.Drives.size c.args.drives) in
+    let failed : Half → Type 0 = λ h. IsFailed (g.V.Drives.faults c.args.drives) (g.V.Drives.faults end) (g.V.Drives.last_fault end) (g.V.Drives.moment end) (tells → Served → ⊥) h in
     let journal = c.args.account.now.journal in
     let status = c.halt.result in
     let old = g.K.Sink.written c.args.out.now in
     let new = g.K.Sink.written c.halt.new.out in
     let rose = Rose (g.K.Sink.faults c.args.out.now) (g.K.Sink.faults c.halt.new.out) in
-    let Ends : Type 0 = EndsAs tells blocks before after failed left ⊥ old new rose journal status in
+    let Ends : Type 0 = EndsAs tells rest before after failed left ⊥ old new rose journal status in
     let H : List LineReply → Stop → Type 0 = λ rs s. HaltEnds old new rose (stop_text rs s) (stop_status s) status in
-    let Told : List LineReply → Type 0 = λ rs. H rs c.in-Err.stop in
+    let Told : List LineReply → Type 0 = λ rs. H rs stop in
     let ends = subst Told (c.deref.ensures.value ∙ c.requires.replies) c.halt.ensures.ends in
     let At : Stop → Type 0 = λ s. H [] s in
-    (elim c.in-Err.stop as (λ s. c.in-Err.stop ≡ s → IsOpenStop s → Ends) [
+    let U : Stop → Type 0 = λ s. IsUntornStop s in
+    let untorn : U stop → tells → after ≡ before = λ u t. c.in-Err.ensures.same t (inr u) in
+    (elim stop as (λ s. stop ≡ s → IsUnserved tells before s → Ends) [
       | Source ↦ λ is only. absurd only
       | Script ↦ λ is only. absurd only
       | Store ↦ λ is only.
-          let out : IsErrOf c.open.result Store = c.in-Err.is ∙ ap (λ (s : Stop). Err s) is in
-          ends_store tells blocks before after failed left ⊥ old new rose journal steps status script (λ t. c.open.ensures.store t out) c.open.ensures.same
+          ends_store tells rest before after failed left ⊥ old new rose journal steps status script only (untorn (subst U (sym is) tt))
+          c.requires.entries c.requires.doubt (subst At is ends)
+      | Bad block why ↦ λ is only.
+          ends_bad tells rest before after failed left ⊥ old new rose journal steps (record { block = block; why = why }) status script only (untorn (subst U (sym is) tt))
           c.requires.entries c.requires.doubt (subst At is ends)
       | Drive h ↦ λ is only.
-          let out : IsErrOf c.open.result (Drive h) = c.in-Err.is ∙ ap (λ (s : Stop). Err s) is in
-          ends_unopened tells blocks before after failed left ⊥ old new rose journal steps h status script (c.open.ensures.drive h out) c.open.ensures.same
+          ends_unopened tells rest before after failed left ⊥ old new rose journal steps h status script (c.in-Err.ensures.stopped h is) (λ t r. c.in-Err.ensures.same t (inl r))
           c.requires.entries c.requires.doubt (subst At is ends)
       | Memory ↦ λ is only.
-          ends_stopped tells blocks before after failed left ⊥ old new rose journal steps status c.requires.entries c.requires.doubt (subst At is ends)
-    ]) refl c.in-Err.ensures.only
+          ends_stopped tells rest before after failed left ⊥ old new rose journal steps status c.requires.entries c.requires.doubt (subst At is ends)
+    ]) refl c.in-Err.ensures.unserved

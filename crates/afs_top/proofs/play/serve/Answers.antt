@@ -1,12 +1,16 @@
 use Rattle.std.proofs.Common.{inl, inr, List, [], ap, subst, ◌∙◌, Err, IsErrOf}
 use Rattle.afs_base.specs.Causes.{Rose}
 use Rattle.drives.specs.declared.device.Half.{Half}
+use Rattle.drives.specs.Changes.{IsAtRest, halves_seen}
+use Rattle.endings.specs.Printing.{HaltEnds}
+use Rattle.pair_store.specs.Content.{content_of}
+use Rattle.recovery.specs.Opening.{IsFailed}
 use Rattle.script_text.specs.declared.reply.LineReply.{LineReply}
+use Rattle.store_model.specs.Found.{found}
 use Rattle.afs_top.specs.declared.stop.Stop.{Stop}
 use Rattle.afs_top.specs.declared.stop.Stop.TheVariants.{Source, Script}
-use Rattle.afs_top.specs.Faults.{HalfFailed}
 use Rattle.afs_top.specs.Output.{stop_text}
-use Rattle.afs_top.specs.Play.{HaltEnds}
+use Rattle.afs_top.specs.Served.{IsServed}
 use Rattle.afs_top.specs.Stop.{stop_status}
 use Rattle.afs_top.proofs.Ends.{ends_empty, ends_script, ends_source}
 use Rattle.afs_top.proofs.play.serve.Goals as goal
@@ -14,9 +18,10 @@ use Rattle.afs_top.proofs.play.serve.Goals as goal
 pub returns-in-Err-clause-ends : goal.returns-in-Err-clause-ends
 returns-in-Err-clause-ends g c =
     let tells = g.V.Drives.tells in
-    let blocks = g.V.Drives.size c.args.drives.now in
-    let before = g.V.Drives.seen c.args.drives.now in
-    let failed : Half → Type 0 = λ h. HalfFailed g.V.Drives.moment g.V.Drives.faults h c.args.drives.now c.args.drives.now in
+    let rest = IsAtRest g.V.Drives.seen g.V.Drives.moment g.V.Drives.may_leave c.args.drives in
+    let before = found (content_of (halves_seen g.V.Drives.seen c.args.drives)) (g.V.Drives.size c.args.drives) in
+    let Served : Type 0 = IsServed (content_of (halves_seen g.V.Drives.seen c.args.drives)) (g.V.Drives.size c.args.drives) in
+    let failed : Half → Type 0 = λ h. IsFailed (g.V.Drives.faults c.args.drives) (g.V.Drives.faults c.args.drives) (g.V.Drives.last_fault c.args.drives) (g.V.Drives.moment c.args.drives) (tells → Served → ⊥) h in
     let left = g.S.Source.left c.args.source.now in
     let source_rose = Rose (g.S.Source.faults c.args.source.now) (g.S.Source.faults c.read_steps.new.source) in
     let journal = c.args.account.now.journal in
@@ -31,14 +36,14 @@ returns-in-Err-clause-ends g c =
     elim c.in-Err.ensures.only [
       | inl is ↦
           let out : IsErrOf c.read_steps.result Source = c.in-Err.is ∙ ap (λ (s : Stop). Err s) is in
-          ends_source tells blocks before before failed left source_rose old new rose journal status (c.read_steps.ensures.cause out) c.requires.entries c.requires.doubt (subst At is ends)
+          ends_source tells rest before before failed left source_rose old new rose journal status (c.read_steps.ensures.cause out) c.requires.entries c.requires.doubt (subst At is ends)
       | inr other ↦ elim other [
         | inl is ↦
             let out : IsErrOf c.read_steps.result Script = c.in-Err.is ∙ ap (λ (s : Stop). Err s) is in
-            ends_script tells blocks before before failed left source_rose old new rose journal status (c.read_steps.ensures.shape out) c.requires.entries c.requires.doubt (subst At is ends)
+            ends_script tells rest before before failed left source_rose old new rose journal status (c.read_steps.ensures.shape out) c.requires.entries c.requires.doubt (subst At is ends)
         | inr is ↦ elim (subst At is ends) [
-          | inl end ↦ ends_empty tells blocks before before failed left source_rose old new rose journal [] status c.requires.entries c.requires.doubt end.0 end.1
-          | inr end ↦ ends_empty tells blocks before before failed left source_rose old new rose journal [] status c.requires.entries c.requires.doubt end.0 end.1
+          | inl end ↦ ends_empty tells rest before before failed left source_rose old new rose journal [] status c.requires.entries c.requires.doubt end.0 end.1
+          | inr end ↦ ends_empty tells rest before before failed left source_rose old new rose journal [] status c.requires.entries c.requires.doubt end.0 end.1
         ]
       ]
     ]

@@ -1,0 +1,6 @@
+pub mod Status
+pub mod Faults
+pub mod Texts
+pub mod Printing
+pub mod Noted
+pub mod Commands

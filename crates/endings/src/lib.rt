@@ -1,0 +1,14 @@
+//! How a call ends: its statuses, the lines that are printed where it does not end well, and what comes back from it.
+#![tactic(auto)]
+
+mod ended;
+mod halt;
+mod put;
+mod status;
+#[cfg(test)]
+mod tests;
+
+pub use ended::{Ended, empty_journal};
+pub use halt::{drive_line, end_bad_store, end_drive, end_memory, end_usage, why_word};
+pub use put::{finish, print_text, put_line, put_text};
+pub use status::Status;

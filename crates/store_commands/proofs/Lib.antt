@@ -1,0 +1,11 @@
+pub mod Numbering
+pub mod Sums
+pub mod Counted
+pub mod Shown
+pub mod Sealed
+pub mod Ends
+pub mod FormatEnds
+pub mod Loops
+pub mod Kept
+pub mod Listed
+pub mod ShowEnds

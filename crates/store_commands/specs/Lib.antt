@@ -1,0 +1,6 @@
+pub mod Texts
+pub mod Formatting
+pub mod Opening
+pub mod Counting
+pub mod Showing
+pub mod Shows

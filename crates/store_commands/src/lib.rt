@@ -1,0 +1,17 @@
+//! The commands that make a store, count what is in it, print it, and give capabilities of its files.
+#![tactic(auto)]
+
+mod cap;
+mod check;
+mod counts;
+mod formatting;
+mod refused;
+mod show;
+mod showing;
+#[cfg(test)]
+mod tests;
+
+pub use cap::afs_cap;
+pub use check::afs_check;
+pub use formatting::afs_format;
+pub use show::afs_show;

@@ -1,0 +1,140 @@
+// The text that `show` prints of a store that was opened.
+ghost use Rattle.std.specs.Prelude.{◌≡◌, ◌⊎◌, ◌≤◌, ◌+◌, ◌++◌, ℕ, List, IfOk, IsErrOf, OnOk, OnErr, string_bytes};
+ghost use Rattle.std.specs.List.{flat_map};
+ghost use Rattle.afs_base.specs.Causes.{Rose};
+ghost use Rattle.drives.specs.declared.device.Half.{Half};
+ghost use Rattle.pair_store.specs.Faults.{IsStopped};
+ghost use Rattle.script_text.specs.ReplyText.{spaced};
+ghost use Rattle.store_model.specs.Laws.{pages_of};
+ghost use Rattle.store_check.specs.Since.{IsUnreadSince, OnlyRead};
+ghost use Rattle.tree_model.specs.States.{File};
+ghost use Rattle.tree_listing.specs.declared.refused.ListingRefused.{ListingRefused};
+ghost use Rattle.tree_listing.specs.Results.{Gives};
+ghost use Rattle.store_commands.specs.Showing.{head_line, head_serials, shown_file, shown_files};
+ghost use Rattle.store_commands.specs.Shows.{AreObjects, IsObject, ShowEnds, UnlistedEnds};
+
+use endings::{Status, end_bad_store, end_drive, end_memory, finish};
+use pair_store::Blocks;
+use script_text::Sink;
+use std::alloc::{AllocError, Global};
+use std::fmt::Write;
+use tree_listing::{ListingRefused, list_tree};
+use version_chain::Head;
+
+/// The serials of the versions that are kept, each after a space.
+fn serials_text(alloc: Global, head: &Head) -> Result<String, AllocError>
+    ensures { IfOk result (λ text. string_bytes text ≡ flat_map spaced (head_serials head.now)) }
+{
+    let first = head.first;
+    let more = head.serial.saturating_sub(first);
+    let mut text = format!(in alloc; " {first}")?;
+    'later: for k in 0..more {
+        let serial = first + 1 + k;
+        write!(text, " {serial}")?;
+    }
+    Ok(text)
+}
+
+/// The line of a file.
+fn head_line(alloc: Global, object: usize, head: &Head) -> Result<String, AllocError>
+    ensures { IfOk result (λ line. string_bytes line ≡ head_line object head.now) }
+{
+    let serials = serials_text(alloc, head)?;
+    format!(in alloc; "file {object}:{serials}\n")
+}
+
+/// Appends the line of a file. Without memory for it nothing is appended.
+fn append_line(
+    alloc: Global,
+    object: usize,
+    head: &Head,
+    text: &mut Vec<u8>,
+) -> Result<(), AllocError>
+    ensures line { OnOk result (text.new.items ≡ text.old.items ++ head_line object head.now) }
+    ensures same { OnErr result (text.new.items ≡ text.old.items) }
+{
+    let line = head_line(alloc, object, head)?;
+    text.extend_from_slice(line.as_bytes())
+}
+
+/// Appends what is printed of an object: nothing where it is not live.
+fn append_object<B: Blocks>(
+    alloc: Global,
+    store: &mut B,
+    object: usize,
+    head: &Option<Head>,
+    text: &mut Vec<u8>,
+) -> Result<(), ListingRefused>
+    ensures only { OnlyRead B.tells B.size B.moment B.content B.may_leave B.settled B.settled_always B.faults B.last_fault store.old store.new }
+    ensures lines { OnOk result ((file : File) × (text.new.items ≡ text.old.items ++ shown_file object file)) }
+    ensures shown { B.tells → (file : File) → IsObject (B.settled store.old) (B.size store.old) (pages_of (B.content store.old)) head.now file
+        → Gives (text.new.items ≡ text.old.items ++ shown_file object file) result }
+    ensures stopped { B.tells → (file : File) → IsObject (B.settled store.old) (B.size store.old) (pages_of (B.content store.old)) head.now file
+        → (h : Half) → IsErrOf result (ListingRefused.ReadFault h) → IsStopped (B.faults store.old) (B.faults store.new) (B.last_fault store.new) (B.moment store.new) h }
+    ensures unread { (h : Half) → IsErrOf result (ListingRefused.ReadFault h)
+        → IsUnreadSince B.tells B.moment B.content B.settled B.faults B.last_fault store.old store.new h }
+{
+    match head {
+        None => Ok(()),
+        Some(head) => {
+            append_line(alloc, object, head, text)?;
+            list_tree(alloc, store, head.block, text)
+        }
+    }
+}
+
+/// Appends what is printed of all objects, object 1 first.
+fn append_objects<B: Blocks>(
+    alloc: Global,
+    store: &mut B,
+    heads: &[Option<Head>],
+    text: &mut Vec<u8>,
+) -> Result<(), ListingRefused>
+    ensures only { OnlyRead B.tells B.size B.moment B.content B.may_leave B.settled B.settled_always B.faults B.last_fault store.old store.new }
+    ensures lines { OnOk result ((files : List File) × (text.new.items ≡ text.old.items ++ shown_files 1 files)) }
+    ensures shown { B.tells → (files : List File) → AreObjects (B.settled store.old) (B.size store.old) (pages_of (B.content store.old)) heads.now files
+        → Gives (text.new.items ≡ text.old.items ++ shown_files 1 files) result }
+    ensures stopped { B.tells → (files : List File) → AreObjects (B.settled store.old) (B.size store.old) (pages_of (B.content store.old)) heads.now files
+        → (h : Half) → IsErrOf result (ListingRefused.ReadFault h) → IsStopped (B.faults store.old) (B.faults store.new) (B.last_fault store.new) (B.moment store.new) h }
+    ensures unread { (h : Half) → IsErrOf result (ListingRefused.ReadFault h)
+        → IsUnreadSince B.tells B.moment B.content B.settled B.faults B.last_fault store.old store.new h }
+{
+    'objects: for k in 0..heads.len() {
+        append_object(alloc, store, k + 1, &heads[k], text)?;
+    }
+    Ok(())
+}
+
+/// Ends a command whose listing stopped, for this cause.
+fn end_unlisted<K: Sink>(alloc: Global, out: &mut K, why: ListingRefused) -> Status
+    ensures ends { UnlistedEnds (K.written out.old) (K.written out.new) (Rose (K.faults out.old) (K.faults out.new)) why result }
+    ensures later { K.faults out.old ≤ K.faults out.new }
+{
+    match why {
+        ListingRefused::ReadFault { half } => end_drive(out, half),
+        ListingRefused::BadStore { block, why } => end_bad_store(alloc, out, block, why),
+        ListingRefused::Memory => end_memory(out),
+    }
+}
+
+/// Prints the files of a store that was opened, and says how the command ends.
+pub(crate) fn end_shown<B: Blocks, K: Sink>(
+    alloc: Global,
+    store: &mut B,
+    heads: &[Option<Head>],
+    out: &mut K,
+) -> Status
+    ensures only { OnlyRead B.tells B.size B.moment B.content B.may_leave B.settled B.settled_always B.faults B.last_fault store.old store.new }
+    ensures ends { ShowEnds
+        (λ files. B.tells × AreObjects (B.settled store.old) (B.size store.old) (pages_of (B.content store.old)) heads.now files)
+        (λ h. IsStopped (B.faults store.old) (B.faults store.new) (B.last_fault store.new) (B.moment store.new) h)
+        (λ h. IsUnreadSince B.tells B.moment B.content B.settled B.faults B.last_fault store.old store.new h)
+        (K.written out.old) (K.written out.new) (Rose (K.faults out.old) (K.faults out.new)) result }
+    ensures later { K.faults out.old ≤ K.faults out.new }
+{
+    let mut text = Vec::new(alloc);
+    match append_objects(alloc, store, heads, &mut text) {
+        Ok(()) => finish(out, text.as_slice()),
+        Err(why) => end_unlisted(alloc, out, why),
+    }
+}
