@@ -8,3 +8,4 @@ pub mod Cut
 pub mod Output
 pub mod Words
 pub mod Play
+pub mod Serving

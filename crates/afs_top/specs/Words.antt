@@ -1,17 +1,8 @@
-use Rattle.std.specs.Prelude.{◌≡◌, ℕ, List, [], ◌∷◌, map, codes, Option, None, String, string_bytes}
-use Rattle.std.specs.declared.alloc.Global.{Global}
+use Rattle.std.specs.Prelude.{ℕ, List, [], ◌∷◌, Option, None}
 use Rattle.endings.specs.declared.status.Status.{Status}
 use Rattle.endings.specs.declared.status.Status.TheVariants.{Success, Usage, BadScript, DriveFault, BadStore, SinkFault, SourceFault, Memory}
 
--- The words of a command, and the scripts that come with it.
-
--- the words are those of `play`
-abbrev pub IsPlay : List (String Global) → Type 0
-IsPlay words = map (λ (w : String Global). string_bytes w) words ≡ codes "play" ∷ []
-
--- the words and so many scripts are a command
-abbrev pub IsCommand : List (String Global) → ℕ → Type 0
-IsCommand words scripts = IsPlay words × (scripts ≡ 1)
+-- How a call ends whose words are no command, and its sources.
 
 -- the call ended because its words were no command
 abbrev pub IsUsage : Status → Type 0

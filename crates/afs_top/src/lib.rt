@@ -1,5 +1,5 @@
-//! The top call: reads the words of a command and the clients' scripts, plays them over two halves and prints what
-//! each line was answered.
+//! The top call: reads the words of a command, does over two halves what they name, and prints what came of it; `play` plays a script and
+//! prints what each line was answered.
 #![tactic(auto)]
 
 mod account;
@@ -14,6 +14,9 @@ mod stop;
 #[cfg(test)]
 mod tests;
 mod update;
+mod words;
 
 pub use endings::{Ended, Status};
-pub use play::{afs_play, afs_words};
+pub use play::afs_play;
+pub use store_commands::{afs_cap, afs_check, afs_format, afs_show};
+pub use words::afs_words;

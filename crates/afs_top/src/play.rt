@@ -1,29 +1,26 @@
-ghost use Rattle.std.specs.Prelude.{◌≡◌, ◌⊎◌, ◌≤◌, ◌<◌, ◌↔◌, [], ◌∷◌, length, List, ℕ, IsTrue, IfSome, IfOk, IfErr, IsErrOf, All, Option, None};
+ghost use Rattle.std.specs.Prelude.{◌≡◌, ◌⊎◌, ◌≤◌, ◌<◌, [], length, List, ℕ, IfSome, IfOk, IfErr, IsErrOf, All, Option, None};
 ghost use Rattle.afs_base.specs.Causes.{Rose};
 ghost use Rattle.drives.specs.declared.device.Half.{Half};
 ghost use Rattle.drives.specs.Changes.{IsAtRest, halves_seen};
 ghost use Rattle.recovery.specs.Opening.{IsFailed};
-ghost use Rattle.endings.specs.Noted.{IsNothingNoted};
-ghost use Rattle.endings.specs.Printing.{Prints};
 ghost use Rattle.endings.specs.Status.{IsDone};
-ghost use Rattle.endings.specs.Texts.{usage_text};
 ghost use Rattle.pair_store.specs.Content.{IsSettled, content_of};
 ghost use Rattle.store_model.specs.Found.{found};
 ghost use Rattle.afs_top.specs.Play.{EndsAs, HasScript, IsBeforeOpening, NothingFailed};
 ghost use Rattle.afs_top.specs.Served.{IsReady, IsServed};
-ghost use Rattle.afs_top.specs.Words.{IsCommand, IsPlay, IsUsage, faults_of, left_of};
+ghost use Rattle.afs_top.specs.Words.{faults_of, left_of};
 ghost use Rattle.afs_top.specs.Script.{IsScript, IsRootStep};
 ghost use Rattle.tree_model.specs.declared.step.Step.{Step};
 
 use crate::account::Account;
 use crate::print::{finish, halt};
 use crate::read::read_script;
-use crate::script::{is_text, parse};
+use crate::script::parse;
 use crate::served::{Place, Served, Unserved, open_served};
 use crate::stop::Stop;
 use crate::update::run;
 use drives::Drives;
-use endings::{Ended, Status, empty_journal, end_usage};
+use endings::{Ended, Status};
 use pair_store::Blocks;
 use script_text::{Sink, Source};
 use std::alloc::Global;
@@ -197,40 +194,5 @@ pub fn afs_play<V: Drives, S: Source, K: Sink>(
         status: played.status,
         drives: played.drives,
         journal: account.into_journal(),
-    }
-}
-
-/// Whether the words are the command `play`.
-fn is_play(words: &[String]) -> bool
-    ensures { IsTrue result ↔ IsPlay words.now }
-{
-    words.len() == 1 && is_text(words[0].as_bytes(), b"play")
-}
-
-/// Serves the words of a command. The one command is `play`, with one script.
-pub fn afs_words<V: Drives, S: Source, K: Sink>(
-    alloc: Global,
-    words: &[String],
-    drives: V,
-    scripts: &mut [S],
-    out: &mut K,
-) -> Ended<V>
-    ensures usage { IsUsage result.status → IsCommand words.now (length scripts.old) → ⊥ }
-    ensures command { (IsCommand words.now (length scripts.old) → ⊥) → IsUsage result.status }
-    ensures play { IsCommand words.now (length scripts.old) → EndsAs V.tells (IsAtRest V.seen V.moment V.may_leave drives) (found (content_of (halves_seen V.seen drives)) (V.size drives)) (found (content_of (halves_seen V.seen result.drives)) (V.size result.drives))
-        (λ h. IsFailed (V.faults drives) (V.faults result.drives) (V.last_fault result.drives) (V.moment result.drives) (V.tells → IsServed (content_of (halves_seen V.seen drives)) (V.size drives) → ⊥) h) (left_of S.left scripts.old) (Rose (faults_of S.faults scripts.old) (faults_of S.faults scripts.new)) (K.written out.old) (K.written out.new) (Rose (K.faults out.old) (K.faults out.new)) result.journal result.status }
-    ensures untouched { IsBeforeOpening result.status → result.drives ≡ drives }
-    ensures unused { IsUsage result.status → (scripts.new ≡ scripts.old) × IsNothingNoted result.journal
-        × Prints (K.written out.old) (K.written out.new) (Rose (K.faults out.old) (K.faults out.new)) usage_text }
-{
-    if is_play(words) && scripts.len() == 1 {
-        afs_play(alloc, &[], drives, scripts, out)
-    } else {
-        let status = end_usage(out);
-        Ended {
-            status,
-            drives,
-            journal: empty_journal(alloc),
-        }
     }
 }
