@@ -45,11 +45,7 @@ fn opened_of<B>(store: B, known: Known, since: u64) -> OpenedOver<B>
 }
 
 /// A store that was checked, once its links are set and its members cleared.
-fn rolled<B: Blocks>(
-    store: B,
-    known: Known,
-    since: u64,
-) -> Result<OpenedOver<B>, UnopenedOver<B>>
+fn rolled<B: Blocks>(store: B, known: Known, since: u64) -> Result<OpenedOver<B>, UnopenedOver<B>>
     ensures rolls { (most : ℕ) (before : LaidStore) (places : List ℕ) → most ≤ B.size store → known.chains.items ≡ chains_of before.files
         → Rolls B.tells B.size B.moment B.content B.may_leave B.settled B.settled_always B.faults B.last_fault most
         (λ c s. RollingLinks c s most before places 0) (λ c s. RollingTops c s most before places (length known.chains.items)) (why_of result) store (store_of result) }
@@ -69,10 +65,7 @@ fn rolled<B: Blocks>(
 /// Opens a store of blocks whose blocks are settled: it is checked, and then the links that a commit left outstanding are
 /// set, and after all of them the members of each last version are cleared. The files that are found stay the same,
 /// whichever call fails and wherever a crash falls, so it may be begun anew.
-pub fn open_over<B: Blocks>(
-    alloc: Global,
-    store: B,
-) -> Result<OpenedOver<B>, UnopenedOver<B>>
+pub fn open_over<B: Blocks>(alloc: Global, store: B) -> Result<OpenedOver<B>, UnopenedOver<B>>
     // The first holds on every exit, where the blocks are settled in everything that a crash may leave as the call begins.
     ensures same { B.tells → IsMended (B.settled_always store) (B.content store) (B.size store)
         → SameFound (B.size store) (B.content store) (B.content (store_of result)) }

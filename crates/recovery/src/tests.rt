@@ -71,11 +71,7 @@ fn half_with(alloc: Global, patches: &[Patch]) -> Result<Vec<u8>, AllocError>
 }
 
 fn drives_with(alloc: Global, a: &[Patch], b: &[Patch]) -> Result<MemDrives, Fail> {
-    Ok(MemDrives::of_halves(
-        alloc,
-        half_with(alloc, a)?,
-        half_with(alloc, b)?,
-    )?)
+    Ok(MemDrives::of_halves(alloc, half_with(alloc, a)?, half_with(alloc, b)?)?)
 }
 
 /// What is told of files 1 to 3: the block of the last version, its serial, and how many blocks are kept.
@@ -147,7 +143,9 @@ fn each_stage_of_a_commit_is_rolled_forward(rt: HostRuntime) -> Result<(), Fail>
 #[test]
 fn each_image_of_an_opening_opens_alike(rt: HostRuntime) -> Result<(), Fail> {
     let alloc = rt.alloc();
-    let opened = open(alloc, drives_with(alloc, &[], &[])?).ok().ok_or("opens")?;
+    let opened = open(alloc, drives_with(alloc, &[], &[])?)
+        .ok()
+        .ok_or("opens")?;
     assert_eq!(rt; opened.since, 0);
     let drives = opened.pair.into_drives();
     assert!(rt; drives.now() > 30);

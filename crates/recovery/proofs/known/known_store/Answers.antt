@@ -40,8 +40,7 @@ returns-in-Ok-heads_in-clause-answer g c = λ told mended.
     let chains : c.as_slice.result.now ≡ chains_of a.0.files = c.as_slice.ensures.value ∙ a.3.heads in
     let entries : length c.entries-objects.result.now ≡ length a.0.files =
     ap (λ l. length l) (c.entries-objects.ensures ∙ a.3.table.entries) ∙ map_long (λ (file : LaidFile). file.entry) a.0.files in
-    let long : length c.as_slice.result.now ≡ length a.0.files = ap (λ (l : List (Option Chain)). length l) chains ∙ map_long (λ (file : LaidFile). chain_of file.versions) a.0.files in
-    (
+    let long : length c.as_slice.result.now ≡ length a.0.files = ap (λ (l : List (Option Chain)). length l) chains ∙ map_long (λ (file : LaidFile). chain_of file.versions) a.0.files in (
       a.0,
       a.1,
       a.2,

@@ -183,4 +183,3 @@ returns-in-Err-clause-unread g c = λ h is.
           (v.tells → IsNoStore (content_of (halves_seen v.seen start.drives)) (v.size start.drives)) h
           (λ empty told. no_content (content_of (halves_seen v.seen start.drives)) (v.size start.drives) (empty told)) unread
     ]))
-

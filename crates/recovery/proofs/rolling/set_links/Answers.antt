@@ -12,37 +12,37 @@ use Rattle.recovery.proofs.rolling.set_links.Goals as goal
 pub files-init : goal.files-init
 files-init g c = record {
   rolls = λ most before places fits are.
-    let b = g.B.Blocks in
-    let d = c.args.store.now in
-    rolls_stay b.tells b.size b.moment b.content b.may_leave b.settled b.settled_always b.faults b.last_fault most
-    (λ c s. RollingLinks c s most before places 0) (λ c s. RollingLinks c s most before places 0) tt d (g.met.B.Blocks.clock d) (λ x s r. r);
+      let b = g.B.Blocks in
+      let d = c.args.store.now in
+      rolls_stay b.tells b.size b.moment b.content b.may_leave b.settled b.settled_always b.faults b.last_fault most
+      (λ c s. RollingLinks c s most before places 0) (λ c s. RollingLinks c s most before places 0) tt d (g.met.B.Blocks.clock d) (λ x s r. r);
   fails = (let b = g.B.Blocks in rolls_stay b.tells b.size b.moment b.content b.may_leave b.settled b.settled_always b.faults b.last_fault 0 Never Never tt c.args.store.now (g.met.B.Blocks.clock c.args.store.now) (λ x s r. r));
 }
 
 pub files-preserved : goal.files-preserved
 files-preserved g c = record {
   rolls = λ most before places fits are.
-    let b = g.B.Blocks in
-    let i = c.files.i in
-    let old = c.args.store.now in
-    let mid = c.files.store in
-    let new = c.link_file.new.store in
-    let so_far = c.files.invariant.rolls most before places fits are in
-    let kept : slice_get (chains_of before.files) i ≡ Some c.index-chains-i.result =
-    ap (λ l. slice_get l i) (sym are) ∙ get_is c.args.chains.now i c.index-chains-i.result c.files-test.true c.index-chains-i.is in
-    let room : most ≤ b.size mid = (let same = so_far.size_same in Prim.omega (arith, same, fits)) in
-    rolls_on b.tells b.size b.moment b.content b.may_leave b.settled b.settled_always b.faults b.last_fault most
-    (λ c s. RollingLinks c s most before places 0) (λ c s. RollingLinks c s most before places i) (λ c s. RollingLinks c s most before places (i + 1))
-    tt (Ok tt) old mid new so_far
-    (subst
-    (λ (r : Result (Unit {0}) OpenRefused).
-    Rolls b.tells b.size b.moment b.content b.may_leave b.settled b.settled_always b.faults b.last_fault most (λ c s. RollingLinks c s most before places i) (λ c s. RollingLinks c s most before places (i + 1))
-    r mid new)
-    c.in_ok-link_file.was (c.link_file.ensures.rolls most before places i room kept));
+      let b = g.B.Blocks in
+      let i = c.files.i in
+      let old = c.args.store.now in
+      let mid = c.files.store in
+      let new = c.link_file.new.store in
+      let so_far = c.files.invariant.rolls most before places fits are in
+      let kept : slice_get (chains_of before.files) i ≡ Some c.index-chains-i.result =
+      ap (λ l. slice_get l i) (sym are) ∙ get_is c.args.chains.now i c.index-chains-i.result c.files-test.true c.index-chains-i.is in
+      let room : most ≤ b.size mid = (let same = so_far.size_same in Prim.omega (arith, same, fits)) in
+      rolls_on b.tells b.size b.moment b.content b.may_leave b.settled b.settled_always b.faults b.last_fault most
+      (λ c s. RollingLinks c s most before places 0) (λ c s. RollingLinks c s most before places i) (λ c s. RollingLinks c s most before places (i + 1))
+      tt (Ok tt) old mid new so_far
+      (subst
+      (λ (r : Result (Unit {0}) OpenRefused).
+      Rolls b.tells b.size b.moment b.content b.may_leave b.settled b.settled_always b.faults b.last_fault most (λ c s. RollingLinks c s most before places i) (λ c s. RollingLinks c s most before places (i + 1))
+      r mid new)
+      c.in_ok-link_file.was (c.link_file.ensures.rolls most before places i room kept));
   fails =
-    let b = g.B.Blocks in
-    rolls_on b.tells b.size b.moment b.content b.may_leave b.settled b.settled_always b.faults b.last_fault 0 Never Never Never tt (Ok tt) c.args.store.now c.files.store c.link_file.new.store c.files.invariant.fails
-    (subst (λ (r : Result (Unit {0}) OpenRefused). Rolls b.tells b.size b.moment b.content b.may_leave b.settled b.settled_always b.faults b.last_fault 0 Never Never r c.files.store c.link_file.new.store) c.in_ok-link_file.was c.link_file.ensures.fails);
+      let b = g.B.Blocks in
+      rolls_on b.tells b.size b.moment b.content b.may_leave b.settled b.settled_always b.faults b.last_fault 0 Never Never Never tt (Ok tt) c.args.store.now c.files.store c.link_file.new.store c.files.invariant.fails
+      (subst (λ (r : Result (Unit {0}) OpenRefused). Rolls b.tells b.size b.moment b.content b.may_leave b.settled b.settled_always b.faults b.last_fault 0 Never Never r c.files.store c.link_file.new.store) c.in_ok-link_file.was c.link_file.ensures.fails);
 }
 
 pub returns-in_err-link_file-clause-rolls : goal.returns-in_err-link_file-clause-rolls

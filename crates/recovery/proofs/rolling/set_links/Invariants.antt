@@ -10,7 +10,7 @@ invariant-files g l =
     let b = g.B.Blocks in
     record {
       rolls : (most : ℕ) (before : LaidStore) (places : List ℕ) → most ≤ b.size l.fn.store → l.chains ≡ chains_of before.files
-    → Rolls {T = Unit {0}} b.tells b.size b.moment b.content b.may_leave b.settled b.settled_always b.faults b.last_fault most
-      (λ c s. RollingLinks c s most before places 0) (λ c s. RollingLinks c s most before places l.i) (Ok tt) l.fn.store l.store;
+          → Rolls {T = Unit {0}} b.tells b.size b.moment b.content b.may_leave b.settled b.settled_always b.faults b.last_fault most
+          (λ c s. RollingLinks c s most before places 0) (λ c s. RollingLinks c s most before places l.i) (Ok tt) l.fn.store l.store;
       fails : Rolls {T = Unit {0}} b.tells b.size b.moment b.content b.may_leave b.settled b.settled_always b.faults b.last_fault 0 Never Never (Ok tt) l.fn.store l.store;
     }
