@@ -1,6 +1,5 @@
 -- How the ends of the commands are put together.
-use Rattle.std.proofs.Common.{◌≡◌, ◌⊎◌, inl, inr, ℕ, ◌+◌, ◌-◌, ◌^◌, ◌≤◌, min, List, [], length, Option, Result, Ok, Err, refl, sym, ap, subst, ◌∙◌, arith}
-use Rattle.afs_base.specs.Causes.{Rose}
+use Rattle.std.proofs.Common.{◌≡◌, ◌⊎◌, inl, inr, ℕ, ◌+◌, ◌-◌, ◌^◌, min, List, length, Option, Result, Ok, refl, sym, ap, subst, ◌∙◌, arith}
 use Rattle.drives.specs.declared.device.Half.{Half}
 use Rattle.drives.specs.Faults.{HasFailed}
 use Rattle.pair_store.specs.Faults.{IsStopped}
@@ -9,7 +8,7 @@ use Rattle.block_map.specs.declared.states.BlockState.{BlockState}
 use Rattle.version_chain.specs.declared.head.Head.{Head}
 use Rattle.tree_model.specs.States.{State}
 use Rattle.store_model.specs.Walk.{Refused}
-use Rattle.store_model.specs.Found.{LaidStore, found, state_in, state_of}
+use Rattle.store_model.specs.Found.{found, state_in, state_of}
 use Rattle.recovery.specs.Opening.{IsBad, IsFailed, IsOpened, NoWriteFailed, heads_of}
 use Rattle.recovery.specs.declared.refused.OpenRefused.{OpenRefused}
 use Rattle.recovery.specs.declared.refused.OpenRefused.TheVariants.{ReadFault, WriteFault, BadStore as Unlawful, Memory as NoMemory}

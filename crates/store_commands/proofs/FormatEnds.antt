@@ -1,5 +1,5 @@
 -- How the end of `format` is put together.
-use Rattle.std.proofs.Common.{◌≡◌, ℕ, List, Option, Result, Ok, sym, subst}
+use Rattle.std.proofs.Common.{◌≡◌, ℕ, List, Option, Result, Ok, subst}
 use Rattle.std.specs.Io.KnownBytes.{Appends}
 use Rattle.script_text.specs.Front.{AppendsFront}
 use Rattle.drives.specs.declared.device.Half.{Half}
@@ -11,7 +11,7 @@ use Rattle.endings.specs.Printing.{FinishEnds}
 use Rattle.endings.specs.Status.{IsDone}
 use Rattle.endings.specs.declared.status.Status.{Status}
 use Rattle.endings.specs.declared.status.Status.TheVariants.{Success, Usage, BadScript, DriveFault, BadStore, SinkFault, SourceFault, Memory}
-use Rattle.store_commands.specs.Formatting.{FormatEnds, IsMade}
+use Rattle.store_commands.specs.Formatting.{FormatEnds}
 use Rattle.store_commands.specs.Texts.{new_files_text}
 
 -- the store was made, and its files were printed
