@@ -1,8 +1,7 @@
 -- How the ends of the commands are put together.
-use Rattle.std.proofs.Common.{◌≡◌, ◌⊎◌, inl, inr, ℕ, ◌+◌, ◌-◌, ◌^◌, min, List, length, Option, Result, Ok, refl, sym, ap, subst, ◌∙◌, arith}
+use Rattle.std.proofs.Common.{◌≡◌, ◌⊎◌, inl, inr, ℕ, ◌+◌, ◌-◌, ◌^◌, min, List, length, Option, Result, Ok, refl, sym, ap, ◌∙◌, arith}
 use Rattle.drives.specs.declared.device.Half.{Half}
 use Rattle.drives.specs.Faults.{HasFailed}
-use Rattle.pair_store.specs.Faults.{IsStopped}
 use Rattle.page_codec.specs.Values.{TableValue}
 use Rattle.block_map.specs.declared.states.BlockState.{BlockState}
 use Rattle.version_chain.specs.declared.head.Head.{Head}
@@ -25,11 +24,6 @@ use Rattle.store_commands.proofs.Shown.{shown, shown_counts}
 use Rattle.store_commands.proofs.Sealed.{found_seals, sealed_state, shown_seals, text_sealed}
 
 -- ---- halves that failed
-
--- a half that stopped a call failed in it
-pub stopped_failed : (faults faults_after last_after : Half → ℕ) (moment_after : ℕ) (h : Half) → IsStopped faults faults_after last_after moment_after h
-    → HasFailed (faults h) (faults_after h) moment_after
-stopped_failed faults faults_after last_after moment_after h stopped = subst (HasFailed (faults h) (faults_after h)) stopped.last stopped.failed
 
 -- the clock that stood at its end then stands there now
 at_end : (last moment : ℕ) (NoStore : Type 0) → (last ≡ moment) ⊎ ((moment ≡ min (last + 1) (2 ^ 64 - 1)) × NoStore) → last ≡ 2 ^ 64 - 1 → moment ≡ 2 ^ 64 - 1

@@ -4,5 +4,4 @@ pub mod Counted
 pub mod Shown
 pub mod Sealed
 pub mod Ends
-pub mod FormatEnds
 pub mod Loops
