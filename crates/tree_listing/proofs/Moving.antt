@@ -119,10 +119,13 @@ lists_none told path old new slot o same is = ([], record { seen = []; rising = 
 -- a page's own line stands before those of the pages below it
 pub lists_first : {X : Type 0} (told : Type 0) (path old mid new bytes : List ℕ) (result : Result X ListingRefused) (o : Result (List Entry) Refused)
     → mid ≡ old ++ page_line path bytes → Lists (AreBelow 16) told path mid new result o → Lists IsRising told path old new result (and_then o (λ below. Ok (([], bytes) ∷ below)))
-lists_first told path old mid new bytes (Ok x) o line (entries, below, is, text) =
-    (([], bytes) ∷ entries, rising_first 16 bytes entries below, (λ t. ap (λ r. and_then r (λ below. Ok (([], bytes) ∷ below))) (is t)),
-    text ∙ ap (λ xs. xs ++ lines_under path entries) line ∙ append_assoc old (page_line path bytes) (lines_under path entries)
-    ∙ ap (λ (p : List ℕ). old ++ (page_line p bytes ++ lines_under path entries)) (sym (append-nil path)))
+lists_first told path old mid new bytes (Ok x) o line (entries, below, is, text) = (
+  ([], bytes) ∷ entries,
+  rising_first 16 bytes entries below,
+  (λ t. ap (λ r. and_then r (λ below. Ok (([], bytes) ∷ below))) (is t)),
+  text ∙ ap (λ xs. xs ++ lines_under path entries) line ∙ append_assoc old (page_line path bytes) (lines_under path entries)
+      ∙ ap (λ (p : List ℕ). old ++ (page_line p bytes ++ lines_under path entries)) (sym (append-nil path)),
+)
 lists_first told path old mid new bytes (Err e) o line stops = λ t. stops_on e o _ (stops t) (λ cause is. ap (λ r. and_then r (λ below. Ok (([], bytes) ∷ below))) is)
 
 -- a page with no level below it
@@ -185,10 +188,12 @@ slots_refused told pages refs path old mid k other e low far stops t =
 
 pub slots_end : (told : Type 0) (pages : ℕ → Result (List Entry) Refused) (refs : List ReferenceValue) (path old new : List ℕ) (k : ℕ) → length refs ≤ k → k ≡ 16 → SlotsListed told pages refs path old new k
     → (entries : List Entry) × AreBelow 16 entries × (told → slots_pages pages 0 refs ≡ Ok entries) × (new ≡ old ++ lines_under path entries)
-slots_end told pages refs path old new k past all far =
-    (far.here, subst (λ (n : ℕ). AreBelow n far.here) all far.below,
-    (λ t. far.is t ∙ ap (λ xs. before_rest far.here (slots_pages pages k xs)) (drop_of_length-le refs past) ∙ ap Ok (append-nil far.here)),
-    far.text)
+slots_end told pages refs path old new k past all far = (
+  far.here,
+  subst (λ (n : ℕ). AreBelow n far.here) all far.below,
+  (λ t. far.is t ∙ ap (λ xs. before_rest far.here (slots_pages pages k xs)) (drop_of_length-le refs past) ∙ ap Ok (append-nil far.here)),
+  far.text,
+)
 
 -- ---- a page and what is below it
 

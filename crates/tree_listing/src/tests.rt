@@ -121,7 +121,10 @@ fn each_cause_is_told(rt: HostRuntime) -> Result<(), Fail> {
         let mut out = Vec::new(rt.alloc());
         let listed = list_tree(rt.alloc(), &mut pair, BlockNo::of(*root)?, &mut out);
         let block = BlockNo::of(*block)?;
-        assert_eq!(rt; listed.err(), Some(ListingRefused::BadStore { block, why: *why }));
+        assert_eq!(rt;
+            listed.err(),
+            Some(ListingRefused::BadStore { block, why: *why })
+        );
     }
     Ok(())
 }

@@ -1,7 +1,7 @@
 //! What `show` prints of stores that were changed by hand.
-use super::{ended_so, edited, format_new, sink};
-use crate::*;
+use super::{edited, ended_so, format_new, sink};
 use crate::showing::end_shown;
+use crate::*;
 use afs_base::BlockNo;
 use drives::{Half, MemDrives};
 use pair_store::Pair;
@@ -74,7 +74,10 @@ fn each_live_object_has_its_serials_and_its_pages(rt: HostRuntime) -> Result<(),
     let mut out = sink(alloc, &[])?;
     let status = end_shown(alloc, &mut pair, &heads, &mut out);
     assert_eq!(rt; status.code(), 0);
-    assert_eq!(rt; out.bytes(), b"file 1: 1\n/ -\nfile 3: 3 4 5\n/ 6869\n".as_slice());
+    assert_eq!(rt;
+        out.bytes(),
+        b"file 1: 1\n/ -\nfile 3: 3 4 5\n/ 6869\n".as_slice()
+    );
     Ok(())
 }
 

@@ -48,10 +48,13 @@ returns-in-Ok-clause-ends g c =
     let within : o.store.root.blocks ≤ V.size mid = omega (arith, fits, o.size, same_size) in (
       state_in o.store,
       sym (c.in-Ok.ensures.same_untorn t tt) ∙ ap state_of o.laid,
-      (t, subst (λ (hs : List (Option Head)). AreObjects settled (V.size mid) (pages_of content) hs (map file_in o.store.files)) (sym (c.deref.ensures.value ∙ o.heads))
-      (objects_of (pages_of content) o.store.root.blocks (V.size mid) settled within
-      (λ n low. c.in-Ok.ensures.settled t n (subst (λ (m : ℕ). n < m) (sym o.size) low))
-      o.store.files (files_lie content most o.store o.places o.laid) (files_numbered content most o.store o.places o.laid))),
+      (
+        t,
+        subst (λ (hs : List (Option Head)). AreObjects settled (V.size mid) (pages_of content) hs (map file_in o.store.files)) (sym (c.deref.ensures.value ∙ o.heads))
+            (objects_of (pages_of content) o.store.root.blocks (V.size mid) settled within
+            (λ n low. c.in-Ok.ensures.settled t n (subst (λ (m : ℕ). n < m) (sym o.size) low))
+            o.store.files (files_lie content most o.store o.places o.laid) (files_numbered content most o.store o.places o.laid)),
+      ),
     ) in
     let old = K.written c.args.out.now in
     let new = K.written c.end_shown-status.new.out in

@@ -121,8 +121,11 @@ list_slot-returns-in_ok-page-in-Some-clause-lists g t c =
     let found : told → page_named blocks c.args.namer n (7 - c.args.depth) ≡ Ok page = λ x. first.found x.0 (x.1 n at [] n refl) in
     let inner = subst (λ (q : List ℕ). Lists IsRising told1 q old new c.list_page.result (pages_from (blocks_of b.content b.size s1) c.args.depth n page)) c.child_of-child.ensures c.list_page.ensures.lists in
     let here = lists_as IsRising told1 told (path ++ k ∷ []) old new c.list_page.result (pages_from (blocks_of b.content b.size s1) c.args.depth n page) (pages_named blocks c.args.depth c.args.namer n)
-    (λ x. (x.0, λ slot m named. each_below_on b.tells b.size b.moment b.content b.may_leave b.settled b.settled_always b.faults b.last_fault s s1 first.only x.0 m
-    (each_slot (b.settled s) (pages_of (b.content s)) n page (named_reads blocks c.args.namer n (7 - c.args.depth) page (found x)) (x.1 n at) slot m named)))
+    (λ x. (
+      x.0,
+      λ slot m named. each_below_on b.tells b.size b.moment b.content b.may_leave b.settled b.settled_always b.faults b.last_fault s s1 first.only x.0 m
+          (each_slot (b.settled s) (pages_of (b.content s)) n page (named_reads blocks c.args.namer n (7 - c.args.depth) page (found x)) (x.1 n at) slot m named),
+    ))
     (λ x. ap (λ (bs : Blocks). pages_from bs c.args.depth n page) (same_blocks b.tells b.size b.moment b.content b.may_leave b.settled b.settled_always b.faults b.last_fault s s1 first.only x.0)
     ∙ sym (ap (λ r. and_then r (pages_from blocks c.args.depth n)) (found x)))
     inner in
@@ -188,8 +191,11 @@ list_slots-returns-in_err-list_slot-clause-lists g t c =
     (slots_refused _ (pages_named (blocks_of b.content b.size s) c.args.depth c.args.namer) refs c.args.path.now c.args.out.now.items c.slots.out.items k other stop low i.far
     (λ x. subst (λ (bs : Blocks). Stops stop (slot_pages (pages_named bs c.args.depth c.args.namer) k (get_or refs k other).block))
     (same_blocks b.tells b.size b.moment b.content b.may_leave b.settled b.settled_always b.faults b.last_fault s c.slots.store i.only x.0)
-    (c.in_err-list_slot.ensures.lists (x.0, λ m e. each_below_on b.tells b.size b.moment b.content b.may_leave b.settled b.settled_always b.faults b.last_fault s c.slots.store i.only x.0 m
-    (x.1 k m (slot_names refs k other m low e))))))
+    (c.in_err-list_slot.ensures.lists (
+      x.0,
+      λ m e. each_below_on b.tells b.size b.moment b.content b.may_leave b.settled b.settled_always b.faults b.last_fault s c.slots.store i.only x.0 m
+          (x.1 k m (slot_names refs k other m low e)),
+    ))))
 
 pub list_slots-returns-in_err-list_slot-clause-stopped :
     goal.list_slots-returns-in_err-list_slot-clause-stopped
@@ -231,8 +237,11 @@ list_slots-slots-preserved g t c =
     let here = lists_as {X = Unit {0}} (AreUnder k) _ told c.args.path.now c.slots.out.items c.list_slot.new.out.items one
     (slot_pages (pages_named (blocks_of b.content b.size c.slots.store) c.args.depth c.args.namer) k (get_or refs k other).block)
     (slot_pages (pages_named (blocks_of b.content b.size s) c.args.depth c.args.namer) k (get_or refs k other).block)
-    (λ x. (x.0, λ m e. each_below_on b.tells b.size b.moment b.content b.may_leave b.settled b.settled_always b.faults b.last_fault s c.slots.store i.only x.0 m
-    (x.1 k m (slot_names refs k other m low e))))
+    (λ x. (
+      x.0,
+      λ m e. each_below_on b.tells b.size b.moment b.content b.may_leave b.settled b.settled_always b.faults b.last_fault s c.slots.store i.only x.0 m
+          (x.1 k m (slot_names refs k other m low e)),
+    ))
     (λ x. ap (λ (bs : Blocks). slot_pages (pages_named bs c.args.depth c.args.namer) k (get_or refs k other).block)
     (same_blocks b.tells b.size b.moment b.content b.may_leave b.settled b.settled_always b.faults b.last_fault s c.slots.store i.only x.0))
     c.in_ok-list_slot.ensures.lists in

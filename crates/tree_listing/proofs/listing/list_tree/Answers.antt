@@ -71,9 +71,11 @@ returns-clause-text g c = λ told tree holds readable.
     let same = same_blocks b.tells b.size b.moment b.content b.may_leave b.settled b.settled_always b.faults b.last_fault s s1 first.only told in
     let lists = subst (λ (q : List ℕ). Lists IsRising (b.tells × EachBelowSlots (b.settled s1) (pages_of (b.content s1)) page.refs) q c.args.out.now.items c.list_page.new.out.items
     c.list_page.result (pages_from (blocks_of b.content b.size s1) 7 root page)) c.root.ensures c.list_page.ensures.lists in
-    lists_text _ c.args.out.now.items c.list_page.new.out.items c.list_page.result (pages_from (blocks_of b.content b.size s1) 7 root page) tree lists
-    (told, λ slot m named. each_below_on b.tells b.size b.moment b.content b.may_leave b.settled b.settled_always b.faults b.last_fault s s1 first.only told m
-    (each_slot (b.settled s) (pages_of (b.content s)) root page (root_reads (blocks_of b.content b.size s) root page found) readable.settled_each slot m named))
+    lists_text _ c.args.out.now.items c.list_page.new.out.items c.list_page.result (pages_from (blocks_of b.content b.size s1) 7 root page) tree lists (
+      told,
+      λ slot m named. each_below_on b.tells b.size b.moment b.content b.may_leave b.settled b.settled_always b.faults b.last_fault s s1 first.only told m
+          (each_slot (b.settled s) (pages_of (b.content s)) root page (root_reads (blocks_of b.content b.size s) root page found) readable.settled_each slot m named),
+    )
     (ap (λ (bs : Blocks). pages_from bs 7 root page) same ∙ ap (pages_from (blocks_of b.content b.size s) 7 root) (sym one) ∙ walked.pages)
 
 pub returns-clause-bad : goal.returns-clause-bad
@@ -88,9 +90,11 @@ returns-clause-bad g c = λ told each block why is.
     let same = same_blocks b.tells b.size b.moment b.content b.may_leave b.settled b.settled_always b.faults b.last_fault s s1 first.only told in
     version_is (blocks_of b.content b.size s) root page found
     ∙ ap (λ (bs : Blocks). pages_from bs 7 root page) (sym same)
-    ∙ lists_bad _ _ c.args.out.now.items c.list_page.new.out.items c.list_page.result (pages_from (blocks_of b.content b.size s1) 7 root page) block why c.list_page.ensures.lists
-    (told, λ slot m named. each_below_on b.tells b.size b.moment b.content b.may_leave b.settled b.settled_always b.faults b.last_fault s s1 first.only told m
-    (each_slot (b.settled s) (pages_of (b.content s)) root page (root_reads (blocks_of b.content b.size s) root page found) each slot m named))
+    ∙ lists_bad _ _ c.args.out.now.items c.list_page.new.out.items c.list_page.result (pages_from (blocks_of b.content b.size s1) 7 root page) block why c.list_page.ensures.lists (
+      told,
+      λ slot m named. each_below_on b.tells b.size b.moment b.content b.may_leave b.settled b.settled_always b.faults b.last_fault s s1 first.only told m
+          (each_slot (b.settled s) (pages_of (b.content s)) root page (root_reads (blocks_of b.content b.size s) root page found) each slot m named),
+    )
     is
 
 pub returns-clause-stopped : goal.returns-clause-stopped
