@@ -10,6 +10,7 @@ use Rattle.page_codec.specs.Reading.{frame_value}
 use Rattle.page_codec.proofs.FactLaws.{PageFacts-none}
 use Rattle.draft_model.specs.Places.{Store, same, slot_block, block_at}
 use Rattle.draft_model.proofs.Facts.{block_at_append}
+use Rattle.drives.specs.declared.device.Half.TheVariants.{A, B}
 use Rattle.store_model.specs.Walk.{Refused, content_at, done, refuse}
 use Rattle.store_model.specs.Laid.{Node, LaidVersion, page_in, block_in}
 use Rattle.store_model.specs.Laws.{pages_of, page_of_block, read_of}
@@ -217,7 +218,11 @@ pub no_cause : (n : ℕ) (o : Option (List ℕ)) (bytes places : List ℕ) (e : 
 unfolding content_at done refuse
 no_cause n None bytes places e is h = absurd cc
 no_cause n (Some held) bytes places (BadStore block why) is h = absurd cc
-no_cause n (Some held) bytes places (ReadFault half) is h = tt
+no_cause n (Some held) bytes places (ReadFault A) is h = tt
+no_cause n (Some held) bytes places (ReadFault B) is h = never h.0 h.1
+  where
+    never : (e : Refused) → (let r : Result (List ℕ × List ℕ) Refused = Ok (held, places) in r) ≡ Err e → ⊥
+    never e is = absurd cc
 no_cause n (Some held) bytes places Memory is h = tt
 
 -- what holds of the pages of the version before, where there is one

@@ -1,5 +1,6 @@
 -- How what a call shows of a walk is handed on: past an early exit, and from one state of the survey to another one.
 use Rattle.std.proofs.Common.{◌≡◌, ℕ, ◌<◌, List, Result, Ok, Err, refl, sym, subst, ap, [], ◌++◌, append_assoc}
+use Rattle.drives.specs.declared.device.Half.TheVariants.{A, B}
 use Rattle.store_model.specs.Walk.{Refused}
 use Rattle.store_check.specs.declared.refused.CheckRefused.{CheckRefused}
 use Rattle.store_check.specs.declared.refused.CheckRefused.TheVariants.{ReadFault, BadStore, Memory}
@@ -9,13 +10,15 @@ use Rattle.store_check.specs.Results.{Outcome, Stops, Walks, Shows, Gets, IsNoCa
 -- a walk that stops where another one stops
 pub stops_on : {X Y : Type 0} (e : CheckRefused) (o : Outcome X) (p : Outcome Y) → Stops e o → ((cause : Refused) → o ≡ Err cause → p ≡ Err cause) → Stops e p
 stops_on (BadStore block why) o p h on = on (record { block = block; why = why }) h
-stops_on (ReadFault half) o p h on = tt
+stops_on (ReadFault A) o p h on = tt
+stops_on (ReadFault B) o p h on = (h.0, on h.0 h.1)
 stops_on Memory o p h on = tt
 
 -- where there is no cause, every walk stops so
 pub stops_any : {X : Type 0} (e : CheckRefused) (o : Outcome X) → IsNoCause e → Stops e o
 stops_any (BadStore block why) o h = absurd h
-stops_any (ReadFault half) o h = tt
+stops_any (ReadFault A) o h = tt
+stops_any (ReadFault B) o h = absurd h
 stops_any Memory o h = tt
 
 module _ {T X : Type 0} (Like : T → X → Type 0) where

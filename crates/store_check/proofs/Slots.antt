@@ -4,6 +4,7 @@ use Rattle.std.proofs.Math.Seq.{drop-cons}
 use Rattle.std.proofs.Math.ListN.{drop_of_length-le}
 use Rattle.page_codec.specs.declared.why.Why.TheVariants.{Reference}
 use Rattle.page_codec.specs.Values.{ReferenceValue, PageValue}
+use Rattle.drives.specs.declared.device.Half.TheVariants.{A, B}
 use Rattle.store_model.specs.Walk.{Blocks, Refused, and_then, bind, done, refuse}
 use Rattle.store_model.specs.Laid.{Node, block_in, is_block}
 use Rattle.store_model.specs.Pages.{Below, page_at, own_node, own_from, named_from, slot_from, slots_from, pages_below}
@@ -69,7 +70,8 @@ module _ (blocks : Blocks) (below : Below) where
   unfolding done
   own_then path reference block page after (Ok x) outcome (nodes, u, is) = (own_node path reference block page ∷ nodes, tt, ap (λ r. and_then r (λ others s. Ok (own_node path reference block page ∷ others, s))) is)
   own_then path reference block page after (Err (BadStore n why)) outcome is = ap (λ r. and_then r (λ others s. Ok (own_node path reference block page ∷ others, s))) is
-  own_then path reference block page after (Err (ReadFault half)) outcome is = tt
+  own_then path reference block page after (Err (ReadFault A)) outcome is = tt
+  own_then path reference block page after (Err (ReadFault B)) outcome is = (is.0, ap (λ r. and_then r (λ others s. Ok (own_node path reference block page ∷ others, s))) is.1)
   own_then path reference block page after (Err Memory) outcome is = tt
 
   -- a page of the version's own, and the pages below it

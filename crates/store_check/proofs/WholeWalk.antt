@@ -5,6 +5,7 @@ use Rattle.page_codec.specs.declared.why.Why.TheVariants.{Member, Blocks as TooM
 use Rattle.page_codec.specs.Values.{EntryValue, MemberValue, RootValue, TableValue}
 use Rattle.page_codec.specs.TableReading.{root_of}
 use Rattle.draft_model.specs.Places.{Store}
+use Rattle.drives.specs.declared.device.Half.TheVariants.{A, B}
 use Rattle.store_model.specs.Walk.{Blocks, Walk, Refused, and_then, bind, done, refuse, check, decoded, content_at}
 use Rattle.store_model.specs.Laid.{LaidVersion, LaidFile}
 use Rattle.store_model.specs.Tables.{Row as ModelRow, table_rows, files_from}
@@ -229,5 +230,7 @@ store_shown blocks root places rows s1 rows_are files s2 files_are table format 
 )
 store_shown blocks root places rows s1 rows_are files s2 files_are table format size key parts all (Err (BadStore n why)) after is =
     tops_stop_all blocks root places (map row_of rows) s1 rows_are files s2 files_are (record { block = n; why = why }) is
-store_shown blocks root places rows s1 rows_are files s2 files_are table format size key parts all (Err (ReadFault half)) after is = tt
+store_shown blocks root places rows s1 rows_are files s2 files_are table format size key parts all (Err (ReadFault A)) after is = tt
+store_shown blocks root places rows s1 rows_are files s2 files_are table format size key parts all (Err (ReadFault B)) after is =
+    (is.0, tops_stop_all blocks root places (map row_of rows) s1 rows_are files s2 files_are is.0 is.1)
 store_shown blocks root places rows s1 rows_are files s2 files_are table format size key parts all (Err Memory) after is = tt

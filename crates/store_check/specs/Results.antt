@@ -2,6 +2,7 @@
 use Rattle.std.specs.Prelude.{◌≡◌, ℕ, List, Result, Ok, Err}
 use Rattle.store_check.specs.declared.refused.CheckRefused.{CheckRefused}
 use Rattle.store_check.specs.declared.refused.CheckRefused.TheVariants.{ReadFault, BadStore, Memory}
+use Rattle.drives.specs.declared.device.Half.TheVariants.{A, B}
 use Rattle.page_codec.specs.declared.why.Why.TheVariants.{Closed}
 use Rattle.pair_store.specs.declared.fault.PairFault.{PairFault}
 use Rattle.pair_store.specs.declared.fault.PairFault.TheVariants.{ReadFault as Unread, WriteFault, BothClosed, BadPage}
@@ -11,10 +12,12 @@ use Rattle.store_model.specs.Walk.{Refused}
 abbrev pub Outcome : Type 0 → Type 0
 Outcome X = Result (X × List ℕ) Refused
 
--- the walk stops at the same cause; a fault and want of memory say nothing
+-- The walk stops at the same cause. A fault of half B comes where half A was read and found closed, so the walk stops there too; a fault
+-- of half A and want of memory say nothing.
 abbrev pub Stops : {X : Type 0} → CheckRefused → Outcome X → Type 0
 Stops (BadStore block why) outcome = outcome ≡ Err (record { block = block; why = why })
-Stops (ReadFault half) outcome = Unit {0}
+Stops (ReadFault A) outcome = Unit {0}
+Stops (ReadFault B) outcome = (e : Refused) × (outcome ≡ Err e)
 Stops Memory outcome = Unit {0}
 
 -- it finds what the walk finds, seen in this way, and the same places; or it stops where the walk stops
@@ -31,13 +34,14 @@ Shows Like (Err e) outcome after = Stops e outcome
 abbrev pub ShowsNone : {T X : Type 0} → Result T CheckRefused → Outcome X → List ℕ → Type 0
 ShowsNone {X = X} result outcome after = Shows (λ _ (_ : X). Unit {0}) result outcome after
 
--- a fault, or want of memory
+-- a fault of half A, or want of memory
 abbrev pub IsNoCause : CheckRefused → Type 0
 IsNoCause (BadStore block why) = ⊥
-IsNoCause (ReadFault half) = Unit {0}
+IsNoCause (ReadFault A) = Unit {0}
+IsNoCause (ReadFault B) = ⊥
 IsNoCause Memory = Unit {0}
 
--- it gets this, but for a fault and want of memory
+-- it gets this, but for a fault of half A and want of memory
 abbrev pub Gets : {T : Type 0} → (T → Type 0) → Result T CheckRefused → Type 0
 Gets P (Ok x) = P x
 Gets P (Err e) = IsNoCause e

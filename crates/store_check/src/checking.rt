@@ -176,6 +176,7 @@ fn ended<B: Blocks>(
     ensures only { OnlyRead B.tells B.size B.moment B.content B.may_leave B.settled B.settled_always B.faults B.last_fault survey.began result.0 }
     ensures store { result.0 ≡ survey.store }
     ensures answer { IsEnded found survey.count survey.list result.1 }
+    ensures fits { IfOk result.1 (λ checked. length checked.map ≤ B.size survey.began) }
 {
     let (store, map) = survey.into_parts();
     match found {
@@ -192,6 +193,7 @@ fn walk_store<B: Blocks>(
 ) -> (B, Result<Checked, CheckRefused>)
     requires { root.now.blocks ≤ B.size reading.began }
     ensures only { OnlyRead B.tells B.size B.moment B.content B.may_leave B.settled B.settled_always B.faults B.last_fault reading.began result.0 }
+    ensures fits { IfOk result.1 (λ checked. length checked.map ≤ B.size reading.began) }
     ensures answer { B.tells → ((n : ℕ) → n < root.now.blocks → B.settled reading.began n)
         → Answers result.1 (walk_from (record { content = B.content reading.began; count = root.now.blocks }) root.now []) }
     ensures unread { (h : Half) → IsErrOf result.1 (CheckRefused.ReadFault h)
@@ -210,6 +212,7 @@ fn walk_store<B: Blocks>(
 /// Checks which files a store holds. It reads each place once, and each page that a later version copied once more, and writes nothing.
 pub fn check<B: Blocks>(alloc: Global, store: B) -> (B, Result<Checked, CheckRefused>)
     ensures only { OnlyRead B.tells B.size B.moment B.content B.may_leave B.settled B.settled_always B.faults B.last_fault store result.0 }
+    ensures fits { IfOk result.1 (λ checked. length checked.map ≤ B.size store) }
     ensures answer { B.tells → IsMended (B.settled store) (B.content store) (B.size store)
         → Answers result.1 (laid (B.content store) (B.size store) []) }
     ensures unread { (h : Half) → IsErrOf result.1 (CheckRefused.ReadFault h)

@@ -59,6 +59,8 @@ impl<B: Blocks> Reading<B> {
         ensures only { IfErr result (IsReadFault n) }
         ensures given { B.tells → B.settled self.old.began n → OnOk result (B.content self.old.began n ≡ Some into.new) }
         ensures closed { B.tells → IsErrOf result (PairFault.BothClosed n) → B.content self.old.began n ≡ None }
+        // Half B is named only where half A was read and found closed.
+        ensures shut { B.tells → B.settled self.old.began n → IsErrOf result (PairFault.ReadFault Half.B) → B.content self.old.began n ≡ None }
         ensures unread { (h : Half) → IsErrOf result (PairFault.ReadFault h)
             → IsUnreadSince B.tells B.moment B.content B.settled B.faults B.last_fault self.old.began self.new.store h }
     {

@@ -1,5 +1,5 @@
 -- What is counted of a store that was opened is what its state has.
-use Rattle.std.proofs.Common.{◌≡◌, ℕ, ◌+◌, ◌-◌, ◌*◌, ◌==◌, Bool, true, not, cond, nat_eq, nat_lt, List, [], ◌∷◌, length, map, filter, take, drop, sum, sum_by, count_by, Option, Some, None, option_map, Ok, refl, sym, ap, subst, ◌∙◌, slice_get, arith}
+use Rattle.std.proofs.Common.{◌≡◌, ℕ, ◌+◌, ◌-◌, ◌*◌, ◌==◌, Bool, not, cond, nat_eq, nat_lt, List, [], ◌∷◌, length, map, filter, take, drop, sum_by, count_by, Option, Some, option_map, Ok, refl, sym, ap, ◌∙◌, slice_get, arith}
 use Rattle.std.specs.Option.{is_some}
 use Rattle.std.specs.List.{list_any}
 use Rattle.std.proofs.lemmas.List.{length-map}

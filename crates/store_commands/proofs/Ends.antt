@@ -1,15 +1,13 @@
 -- How the ends of the commands are put together.
-use Rattle.std.proofs.Common.{◌≡◌, ◌⊎◌, inl, inr, ℕ, ◌+◌, ◌-◌, ◌^◌, ◌≤◌, min, List, [], length, Option, Result, Ok, Err, refl, sym, ap, subst, ◌∙◌, arith}
-use Rattle.afs_base.specs.Causes.{Rose}
+use Rattle.std.proofs.Common.{◌≡◌, ◌⊎◌, inl, inr, ℕ, ◌+◌, ◌-◌, ◌^◌, min, List, length, Option, Result, Ok, refl, sym, ap, ◌∙◌, arith}
 use Rattle.drives.specs.declared.device.Half.{Half}
 use Rattle.drives.specs.Faults.{HasFailed}
-use Rattle.pair_store.specs.Faults.{IsStopped}
 use Rattle.page_codec.specs.Values.{TableValue}
 use Rattle.block_map.specs.declared.states.BlockState.{BlockState}
 use Rattle.version_chain.specs.declared.head.Head.{Head}
 use Rattle.tree_model.specs.States.{State}
 use Rattle.store_model.specs.Walk.{Refused}
-use Rattle.store_model.specs.Found.{LaidStore, found, state_in, state_of}
+use Rattle.store_model.specs.Found.{found, state_in, state_of}
 use Rattle.recovery.specs.Opening.{IsBad, IsFailed, IsOpened, NoWriteFailed, heads_of}
 use Rattle.recovery.specs.declared.refused.OpenRefused.{OpenRefused}
 use Rattle.recovery.specs.declared.refused.OpenRefused.TheVariants.{ReadFault, WriteFault, BadStore as Unlawful, Memory as NoMemory}
@@ -26,11 +24,6 @@ use Rattle.store_commands.proofs.Shown.{shown, shown_counts}
 use Rattle.store_commands.proofs.Sealed.{found_seals, sealed_state, shown_seals, text_sealed}
 
 -- ---- halves that failed
-
--- a half that stopped a call failed in it
-pub stopped_failed : (faults faults_after last_after : Half → ℕ) (moment_after : ℕ) (h : Half) → IsStopped faults faults_after last_after moment_after h
-    → HasFailed (faults h) (faults_after h) moment_after
-stopped_failed faults faults_after last_after moment_after h stopped = subst (HasFailed (faults h) (faults_after h)) stopped.last stopped.failed
 
 -- the clock that stood at its end then stands there now
 at_end : (last moment : ℕ) (NoStore : Type 0) → (last ≡ moment) ⊎ ((moment ≡ min (last + 1) (2 ^ 64 - 1)) × NoStore) → last ≡ 2 ^ 64 - 1 → moment ≡ 2 ^ 64 - 1

@@ -4,7 +4,6 @@ pub mod Counted
 pub mod Shown
 pub mod Sealed
 pub mod Ends
-pub mod FormatEnds
 pub mod Loops
 pub mod Kept
 pub mod Listed

@@ -4,8 +4,7 @@ use Rattle.std.specs.Option.{option_and_then, is_some}
 use Rattle.std.proofs.lemmas.Bool.{eqb-true}
 use Rattle.page_codec.specs.declared.why.Why.TheVariants.{Member}
 use Rattle.page_codec.specs.Values.{VersionValue, MemberValue}
-use Rattle.page_codec.specs.Causes.{version_of}
-use Rattle.store_model.specs.Walk.{Blocks, if_some, done}
+use Rattle.store_model.specs.Walk.{Blocks, if_some}
 use Rattle.store_model.specs.Laid.{LaidVersion, LaidFile, last_laid}
 use Rattle.store_model.specs.Chains.{follows, version_at, chain_from, chain_at}
 use Rattle.store_model.specs.Tables.{Row, files_from}

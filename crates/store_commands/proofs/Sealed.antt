@@ -1,5 +1,5 @@
 -- The seal that a table has for an object is the one of its state.
-use Rattle.std.proofs.Common.{◌≡◌, ℕ, ◌-◌, ◌==◌, Bool, true, false, cond, nat_eq, nat_lt, List, [], ◌∷◌, ◌++◌, codes, length, map, Option, Some, None, option_map, Ok, refl, sym, ap, ◌∙◌, slice_get}
+use Rattle.std.proofs.Common.{◌≡◌, ℕ, ◌-◌, ◌==◌, Bool, true, false, cond, nat_lt, List, [], ◌∷◌, ◌++◌, codes, map, Option, Some, None, option_map, Ok, refl, sym, ap, ◌∙◌, slice_get}
 use Rattle.std.specs.FinMap as finmap
 use Rattle.std.specs.Option.{is_some, option_and_then}
 use Rattle.std.proofs.lemmas.List.{length-map}

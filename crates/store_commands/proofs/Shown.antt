@@ -1,5 +1,5 @@
 -- A state that has the numbers of any table and heads of as many objects: what is shown where contents are not told.
-use Rattle.std.proofs.Common.{◌≡◌, ℕ, Bool, ◌+◌, ◌-◌, cond, nat_lt, List, [], ◌∷◌, length, map, replicate, sum_by, Option, Some, None, refl, sym, ap, ◌∙◌, arith}
+use Rattle.std.proofs.Common.{◌≡◌, ℕ, Bool, ◌+◌, ◌-◌, cond, List, [], ◌∷◌, length, map, replicate, sum_by, Option, Some, None, refl, sym, ap, ◌∙◌, arith}
 use Rattle.std.specs.FinMap as finmap
 use Rattle.std.specs.Option.{is_some}
 use Rattle.std.proofs.lemmas.List.{length-replicate}
@@ -9,7 +9,7 @@ use Rattle.page_codec.specs.Values.{EntryValue, TableValue}
 use Rattle.tree_model.specs.States.{State, File, Version, is_live}
 use Rattle.service_model.specs.Standing.{kept_blocks}
 use Rattle.version_chain.specs.declared.head.Head.{Head}
-use Rattle.store_commands.specs.Counting.{head_kept, head_versions, heads_kept, heads_live, heads_versions}
+use Rattle.store_commands.specs.Counting.{head_kept, head_versions}
 use Rattle.store_commands.proofs.Counted.{HasCounts}
 use Rattle.store_commands.proofs.Sums.{some_above}
 

@@ -1,6 +1,6 @@
 //! Whole commands on halves in memory, against the lines and the bytes that the formats ask for.
 use crate::*;
-use drives::{Drives, Half, MemDrives, Pick};
+use drives::{Drives, Half, MemDrives, Memory, Pick};
 use endings::Ended;
 use new_store::NewStore;
 use script_text::MemSink;
@@ -16,6 +16,26 @@ fn sink(alloc: Global, fails: &[u64]) -> Result<MemSink, AllocError> {
     Ok(MemSink::of(Vec::new(alloc), Vec::from_slice(alloc, fails)?))
 }
 
+/// Makes the store, where the drives have as many blocks.
+fn format_on(
+    alloc: Global,
+    drives: MemDrives,
+    store: &NewStore,
+    out: &mut MemSink,
+) -> Option<Ended<MemDrives>> {
+    if drives.blocks() < store.blocks {
+        return None;
+    }
+    Some(afs_format(alloc, drives, store, out))
+}
+
+/// Blank halves whose calls of these numbers fail; there are as many blocks as the store has.
+fn blank(alloc: Global, store: &NewStore, fails: &[u64]) -> Result<MemDrives, Memory> {
+    let mut drives = MemDrives::blank(alloc, store.blocks)?;
+    drives.fail_at(Vec::from_slice(alloc, fails)?);
+    Ok(drives)
+}
+
 /// A new store of the key 7 on blank halves of as many blocks, where the calls of the halves and of the sink of these
 /// numbers fail.
 fn format_new(
@@ -26,13 +46,9 @@ fn format_new(
     refused: &[u64],
 ) -> Result<(Ended<MemDrives>, MemSink), Fail> {
     let store = NewStore::of(7, files, blocks).ok_or("in range")?;
-    let mut drives = MemDrives::blank(alloc, store.blocks)?;
-    drives.fail_at(Vec::from_slice(alloc, fails)?);
+    let drives = blank(alloc, &store, fails)?;
     let mut out = sink(alloc, refused)?;
-    if drives.blocks() < store.blocks {
-        return Err("as many blocks".into());
-    }
-    let ended = afs_format(alloc, drives, &store, &mut out);
+    let ended = format_on(alloc, drives, &store, &mut out).ok_or("as many blocks")?;
     Ok((ended, out))
 }
 
@@ -47,15 +63,20 @@ fn edited(alloc: Global, half: &[u8], at: usize, bytes: &[u8]) -> Result<Vec<u8>
     Ok(half)
 }
 
+/// Two halves of 64 blocks.
+fn of_two(alloc: Global, a: Vec<u8>, b: Vec<u8>) -> Result<Option<MemDrives>, Memory> {
+    if a.len() != 65536 || b.len() != 65536 {
+        return Ok(None);
+    }
+    Ok(Some(MemDrives::of_halves(alloc, a, b)?))
+}
+
 /// The halves of a new store of so many files in 64 blocks, with other bytes from one on.
 fn changed(alloc: Global, files: u32, at: usize, bytes: &[u8]) -> Result<MemDrives, Fail> {
     let (ended, _) = format_new(alloc, files, 64, &[], &[])?;
     let a = edited(alloc, ended.drives.half_bytes(Half::A), at, bytes)?;
     let b = edited(alloc, ended.drives.half_bytes(Half::B), at, bytes)?;
-    if a.len() != 65536 || b.len() != 65536 {
-        return Err("64 blocks".into());
-    }
-    Ok(MemDrives::of_halves(alloc, a, b)?)
+    Ok(of_two(alloc, a, b)?.ok_or("64 blocks")?)
 }
 
 fn has_at(bytes: &[u8], at: usize, expected: &[u8]) -> bool {

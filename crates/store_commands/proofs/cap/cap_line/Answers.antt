@@ -1,4 +1,4 @@
-use Rattle.std.proofs.Common.{◌≡◌, [], ◌∷◌, ◌++◌, List, ℕ, codes, sym, ap, ◌∙◌, append_assoc}
+use Rattle.std.proofs.Common.{[], ◌∷◌, ◌++◌, List, ℕ, codes, sym, ap, ◌∙◌, append_assoc}
 use Rattle.hex.specs.Hex.{encode_lower}
 use Rattle.caps.specs.Tables.{seal_of}
 use Rattle.store_commands.proofs.Sealed.{minted_text}

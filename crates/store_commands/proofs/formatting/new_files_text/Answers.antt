@@ -1,5 +1,4 @@
-use Rattle.std.proofs.Common.{◌≡◌, ◌+◌, ◌++◌, List, ℕ, sym, ap, ◌∙◌}
-use Rattle.store_commands.specs.Texts.{new_file_line, new_files_text}
+use Rattle.std.proofs.Common.{◌++◌, sym, ◌∙◌}
 use Rattle.store_commands.proofs.Loops.{lines_more}
 use Rattle.store_commands.proofs.formatting.new_files_text.Goals as goal
 
