@@ -217,3 +217,5 @@ fn an_update_that_writes_nothing(rt: HostRuntime) -> Result<(), Fail> {
     )?;
     Ok(())
 }
+
+mod commands;
