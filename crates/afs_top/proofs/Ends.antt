@@ -310,9 +310,9 @@ completes tells rest before after failed left source_rose old new sink_rose jour
 completes tells rest before after failed left source_rose old new sink_rose journal BadScript t sound ends = not_both left ends.0 sound.shaped
 completes tells rest before after failed left source_rose old new sink_rose journal DriveFault t sound ends = sound.halves ends.0 ends.3
 completes tells rest before after failed left source_rose old new sink_rose journal BadStore t sound ends = elim ends.4 [
-      | inl x ↦ (x.0 t).1 sound.served
-      | inr x ↦ (let both : Ok served_state ≡ Err x.0 = sym sound.served ∙ x.1 t in absurd (cc both))
-    ]
+  | inl x ↦ (x.0 t).1 sound.served
+  | inr x ↦ (let both : Ok served_state ≡ Err x.0 = sym sound.served ∙ x.1 t in absurd (cc both))
+]
 completes tells rest before after failed left source_rose old new sink_rose journal SinkFault t sound ends = sound.sink ends.6
 completes tells rest before after failed left source_rose old new sink_rose journal SourceFault t sound ends = sound.source ends.0
 completes tells rest before after failed left source_rose old new sink_rose journal Memory t sound ends = tt

@@ -32,8 +32,7 @@ pub live_is : (object : ℕ) (entry : EntryValue) (head : Option Head) (h : Head
 live_is object entry head h live is =
     let Live : Type 0 = (entry.generation ≡ 1) × (entry.secret ≡ secret_of 7 object 1) × ((block : ℕ) × (head ≡ Some (record { block = block; first = 1; serial = 1; kept = 1 }))) in
     let Dead : Type 0 = (entry.generation ≡ 0) × (entry.secret ≡ zeros 8) × (head ≡ None) in
-    let M : Bool → Type 0 = λ b. MatchBool b Live Dead in
-    (
+    let M : Bool → Type 0 = λ b. MatchBool b Live Dead in (
       λ x. subst M (sym live) (x.0, x.1.0, (h.block, is ∙ (λ i. Some (record { block = h.block; first = x.1.1.0 i; serial = x.1.1.1 i; kept = x.1.1.2 i })))),
       λ y.
           let z : Live = subst M live y in
@@ -171,8 +170,7 @@ module _ (c : Content) (most : ℕ) (table : TableValue) (states : List BlockSta
             let serial : one.version.serial ≡ 1 = ap (λ (v : Version). v.serial) one.blank in
             let paths : map (λ (n : Node). n.path) (filter (λ (n : Node). n.is_own) one.version.nodes) ≡ [] ∷ [] = ap (λ (v : Version). v.fresh) one.blank in
             let own : length (filter (λ (n : Node). n.is_own) one.version.nodes) ≡ 1 = sym (length-map (filter (λ (n : Node). n.is_own) one.version.nodes) (λ (n : Node). n.path)) ∙ ap length paths in
-            let kept : kept_by (one.version ∷ []) ≡ 1 = sum_by-cons own_pages one.version [] ∙ omega (arith, own) in
-            (
+            let kept : kept_by (one.version ∷ []) ≡ 1 = sum_by-cons own_pages one.version [] ∙ omega (arith, own) in (
               ap (λ (y : File). y.generation) f,
               ap (λ (y : File). y.secret) f,
               (one.version.block, ap head_of one.is ∙ (λ i. Some (record { block = one.version.block; first = serial i; serial = serial i; kept = kept i }))),

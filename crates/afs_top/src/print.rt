@@ -73,11 +73,7 @@ fn add_files(alloc: Global, written: bool, text: &mut Vec<u8>) -> Result<(), All
 }
 
 /// What a finished run prints.
-fn finished_text(
-    alloc: Global,
-    replies: &[LineReply],
-    written: bool,
-) -> Result<Vec<u8>, AllocError>
+fn finished_text(alloc: Global, replies: &[LineReply], written: bool) -> Result<Vec<u8>, AllocError>
     requires { length replies.now ≤ 130 }
     ensures { IfOk result (λ text. text.items ≡ reply_lines 1 replies.now ++ files_lines written) }
 {

@@ -22,8 +22,7 @@ both_blank-requires-clause-settled g c = λ t.
     let zero_low : 0 < 2 = omega arith in
     let one_low : 1 < 2 = omega arith in
     let a = live_at content size c.args.table.now c.args.map.now c.args.heads.now x new 0 c.in-Some.blocks.first zero_low c.in-Some.ensures.0 in
-    let b = live_at content size c.args.table.now c.args.map.now c.args.heads.now x new 1 c.in-Some.blocks.second one_low c.in-Some.ensures.1 in
-    (
+    let b = live_at content size c.args.table.now c.args.map.now c.args.heads.now x new 1 c.in-Some.blocks.second one_low c.in-Some.ensures.1 in (
       c.requires.settled t c.in-Some.blocks.first (live_within content size c.args.table.now c.args.map.now c.args.heads.now x 0 c.in-Some.blocks.first a),
       c.requires.settled t c.in-Some.blocks.second (live_within content size c.args.table.now c.args.map.now c.args.heads.now x 1 c.in-Some.blocks.second b),
     )
@@ -37,8 +36,7 @@ both_blank-requires-clause-pages g c = λ t.
     let zero_low : 0 < 2 = omega arith in
     let one_low : 1 < 2 = omega arith in
     let a = live_at content size c.args.table.now c.args.map.now c.args.heads.now x new 0 c.in-Some.blocks.first zero_low c.in-Some.ensures.0 in
-    let b = live_at content size c.args.table.now c.args.map.now c.args.heads.now x new 1 c.in-Some.blocks.second one_low c.in-Some.ensures.1 in
-    (
+    let b = live_at content size c.args.table.now c.args.map.now c.args.heads.now x new 1 c.in-Some.blocks.second one_low c.in-Some.ensures.1 in (
       live_some content size c.args.table.now c.args.map.now c.args.heads.now x 0 c.in-Some.blocks.first a,
       live_some content size c.args.table.now c.args.map.now c.args.heads.now x 1 c.in-Some.blocks.second b,
     )

@@ -20,19 +20,19 @@ returns-in-Ok-Set-clause-linked g c = λ t bytes next.
 pub returns-in-Ok-Taken-clause-changed : goal.returns-in-Ok-Taken-clause-changed
 returns-in-Ok-Taken-clause-changed g c = λ _. (
   (λ t.
-  let next = (c.requires.next t).1 in
-  let T : Tas → Type 0 = λ x. IsTested c.args.place.now.base (g.B.Blocks.content c.args.store.now c.args.place.now.base) (Ok x) in
-  not_taken (g.B.Blocks.content c.args.store.now) (g.B.Blocks.size c.args.store.now) c.args.place.now.base c.args.place.now.free next.ready c.in-Ok-Taken.field-0-0
-  (subst T c.in-Ok-Taken.field-0-is (c.in-Ok-Taken.ensures.answer t (c.requires.settled t)))),
+      let next = (c.requires.next t).1 in
+      let T : Tas → Type 0 = λ x. IsTested c.args.place.now.base (g.B.Blocks.content c.args.store.now c.args.place.now.base) (Ok x) in
+      not_taken (g.B.Blocks.content c.args.store.now) (g.B.Blocks.size c.args.store.now) c.args.place.now.base c.args.place.now.free next.ready c.in-Ok-Taken.field-0-0
+      (subst T c.in-Ok-Taken.field-0-is (c.in-Ok-Taken.ensures.answer t (c.requires.settled t)))),
   refl,
 )
 
 pub returns-in-Err-BadPage-clause-changed : goal.returns-in-Err-BadPage-clause-changed
 returns-in-Err-BadPage-clause-changed g c = λ _. (
   (λ t.
-  let next = (c.requires.next t).1 in
-  let T : PairFault → Type 0 = λ x. IsTested c.args.place.now.base (g.B.Blocks.content c.args.store.now c.args.place.now.base) (Err x) in
-  not_bad (g.B.Blocks.content c.args.store.now) (g.B.Blocks.size c.args.store.now) c.args.place.now.base c.args.place.now.free next.ready c.in-Err-BadPage.field-0-1
-  (subst T c.in-Err-BadPage.field-0-is (c.in-Err-BadPage.ensures.answer t (c.requires.settled t))).1),
+      let next = (c.requires.next t).1 in
+      let T : PairFault → Type 0 = λ x. IsTested c.args.place.now.base (g.B.Blocks.content c.args.store.now c.args.place.now.base) (Err x) in
+      not_bad (g.B.Blocks.content c.args.store.now) (g.B.Blocks.size c.args.store.now) c.args.place.now.base c.args.place.now.free next.ready c.in-Err-BadPage.field-0-1
+      (subst T c.in-Err-BadPage.field-0-is (c.in-Err-BadPage.ensures.answer t (c.requires.settled t))).1),
   refl,
 )
