@@ -30,10 +30,26 @@ fn sure(alloc: Global) -> Result<SureDrives, Fail> {
 }
 
 // The new store with one byte changed on half A, in the version page of file 2.
-fn changed(alloc: Global) -> Result<SureDrives, Fail> {
+fn torn(alloc: Global) -> Result<SureDrives, Fail> {
     let mut a = new_half(alloc)?;
     let b = new_half(alloc)?;
     a[2248] = 1;
+    Ok(SureDrives::of_halves(alloc, a, b)?)
+}
+
+// A new store of another key.
+fn other(alloc: Global) -> Result<SureDrives, Fail> {
+    let mut a = fresh_image(alloc, 2, 64, 8)?;
+    a.resize(65536, 0)?;
+    let mut b = fresh_image(alloc, 2, 64, 8)?;
+    b.resize(65536, 0)?;
+    Ok(SureDrives::of_halves(alloc, a, b)?)
+}
+
+// Halves that hold nothing.
+fn blank(alloc: Global) -> Result<SureDrives, Fail> {
+    let a = vec![in alloc; 0; 65536]?;
+    let b = vec![in alloc; 0; 65536]?;
     Ok(SureDrives::of_halves(alloc, a, b)?)
 }
 
@@ -138,33 +154,43 @@ fn each_refusal_has_its_line(rt: HostRuntime) -> Result<(), Fail> {
         expected,
     )?;
     let expected = (4, b"bad store: unbuilt\n".as_slice());
-    let _ = ends(&rt, alloc, changed(alloc)?, SAMPLE, (&[], &[]), expected)?;
+    let _ = ends(&rt, alloc, other(alloc)?, SAMPLE, (&[], &[]), expected)?;
+    let expected = (4, b"bad store: block 0 closed\n".as_slice());
+    let _ = ends(&rt, alloc, blank(alloc)?, SAMPLE, (&[], &[]), expected)?;
     let expected = (6, b"source 1\n".as_slice());
     let _ = ends(&rt, alloc, sure(alloc)?, SAMPLE, (&[1], &[]), expected)?;
     Ok(())
 }
 
 #[test]
+fn a_half_that_differs_is_mended(rt: HostRuntime) -> Result<(), Fail> {
+    let alloc = rt.alloc();
+    let ended = ends(&rt, alloc, torn(alloc)?, SAMPLE, (&[], &[]), (0, ANSWERS))?;
+    assert!(rt; holds_the_update(ended.drives.half_bytes(Half::A)));
+    Ok(())
+}
+
+#[test]
 fn a_fault_of_a_half_is_told_with_what_was_answered(rt: HostRuntime) -> Result<(), Fail> {
     let alloc = rt.alloc();
-    let expected = (3, b"drive A\n".as_slice());
-    let _ = ends(
+    let well = ends(
         &rt,
         alloc,
-        failing(alloc, &[2])?,
+        failing(alloc, &[])?,
         SAMPLE,
         (&[], &[]),
-        expected,
+        (0, ANSWERS),
     )?;
-    // Calls 1 and 2 read the halves, 3 to 6 write the new page, and 7 begins to link it.
+    // The last call of the run ends the link on half A.
+    let last = well.drives.now();
     let expected = (
         3,
-        b"1.1 base 1\n1.2 ok\n1.3 data 6869\ndrive B\n".as_slice(),
+        b"1.1 base 1\n1.2 ok\n1.3 data 6869\ndrive A\n".as_slice(),
     );
     let ended = ends(
         &rt,
         alloc,
-        failing(alloc, &[7])?,
+        failing(alloc, &[last])?,
         SAMPLE,
         (&[], &[]),
         expected,
