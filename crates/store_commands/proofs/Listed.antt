@@ -17,9 +17,9 @@ use Rattle.store_model.specs.Found.{file_in, version_in}
 use Rattle.store_model.proofs.Chaining.{last_from}
 use Rattle.store_model.proofs.LastVersions.{last_get}
 use Rattle.store_model.proofs.Lying.{Each}
-use Rattle.store_check.specs.Files.{AllLie, FilesLie}
+use Rattle.store_check.specs.Files.{AllLie, FilesLie, kept_by}
 use Rattle.store_check.specs.Since.{OnlyRead}
-use Rattle.recovery.specs.Opening.{head_of, heads_of, kept_by}
+use Rattle.recovery.specs.Opening.{head_of, heads_of}
 use Rattle.tree_listing.specs.TreeText.{tree_text}
 use Rattle.tree_listing.specs.Listing.{AreReadable, EachBelow}
 use Rattle.tree_listing.specs.Results.{AppendsTree, Gives}
