@@ -15,7 +15,7 @@ ghost use Rattle.endings.specs.Status.{IsDone};
 ghost use Rattle.endings.specs.Texts.{usage_text};
 ghost use Rattle.command_words.specs.Commands.{IsCommand, IsWithin, scripts_of};
 ghost use Rattle.command_words.specs.declared.command.Command.{Command};
-ghost use Rattle.new_store.specs.Formatting.{StandsFor};
+ghost use Rattle.new_store.specs.Fresh.{StandsFor};
 ghost use Rattle.store_commands.specs.Formatting.{FormatEnds};
 ghost use Rattle.store_commands.specs.Opening.{OnlyOpened};
 ghost use Rattle.afs_top.specs.Play.{EndsAs, IsBeforeOpening, NothingFailed};
