@@ -159,3 +159,6 @@ fn main(rt: HostRuntime) -> ExitCode {
         Err(refusal) => ExitCode::from(refuse(&rt, &refusal)),
     }
 }
+
+#[cfg(test)]
+mod tests;

@@ -43,18 +43,18 @@ fn serve_command<V: Drives, S: Source, K: Sink>(
     requires counted { length scripts.old ≡ scripts_of command.now }
     ensures called { IsUsage result.status → ⊥ }
     ensures ends { Serves command.now (EndsAs V.tells (IsAtRest V.seen V.moment V.may_leave drives) (found (content_of (halves_seen V.seen drives)) (V.size drives)) (found (content_of (halves_seen V.seen result.drives)) (V.size result.drives))
-            (λ h. IsFailed (V.faults drives) (V.faults result.drives) (V.last_fault result.drives) (V.moment result.drives) (V.tells → IsServed (content_of (halves_seen V.seen drives)) (V.size drives) → ⊥) h)
-            (left_of S.left scripts.old) (Rose (faults_of S.faults scripts.old) (faults_of S.faults scripts.new)) (K.written out.old) (K.written out.new) (Rose (K.faults out.old) (K.faults out.new)) result.journal result.status)
+        (λ h. IsFailed (V.faults drives) (V.faults result.drives) (V.last_fault result.drives) (V.moment result.drives) (V.tells → IsServed (content_of (halves_seen V.seen drives)) (V.size drives) → ⊥) h)
+        (left_of S.left scripts.old) (Rose (faults_of S.faults scripts.old) (faults_of S.faults scripts.new)) (K.written out.old) (K.written out.new) (Rose (K.faults out.old) (K.faults out.new)) result.journal result.status)
         (λ store. FormatEnds store V.tells (found (content_of (halves_seen V.seen result.drives)) (V.size drives))
-            (IsStopped (V.faults drives) (V.faults result.drives) (V.last_fault result.drives) (V.moment result.drives))
-            (K.written out.old) (K.written out.new) (Rose (K.faults out.old) (K.faults out.new)) result.status)
+        (IsStopped (V.faults drives) (V.faults result.drives) (V.last_fault result.drives) (V.moment result.drives))
+        (K.written out.old) (K.written out.new) (Rose (K.faults out.old) (K.faults out.new)) result.status)
         (λ text. CommandEnds V.tells (found (content_of (halves_seen V.seen drives)) (V.size drives))
-            (IsFailed (V.faults drives) (V.faults result.drives) (V.last_fault result.drives) (V.moment result.drives)
-            (V.tells → IsNoStore (content_of (halves_seen V.seen drives)) (V.size drives)))
-            text (K.written out.old) (K.written out.new) (Rose (K.faults out.old) (K.faults out.new)) result.status) }
+        (IsFailed (V.faults drives) (V.faults result.drives) (V.last_fault result.drives) (V.moment result.drives)
+        (V.tells → IsNoStore (content_of (halves_seen V.seen drives)) (V.size drives)))
+        text (K.written out.old) (K.written out.new) (Rose (K.faults out.old) (K.faults out.new)) result.status) }
     ensures complete { V.tells → Serves command.now (NothingFailed (found (content_of (halves_seen V.seen drives)) (V.size drives))
-            (λ h. IsFailed (V.faults drives) (V.faults result.drives) (V.last_fault result.drives) (V.moment result.drives) (V.tells → IsServed (content_of (halves_seen V.seen drives)) (V.size drives) → ⊥) h)
-            (left_of S.left scripts.old) (Rose (faults_of S.faults scripts.old) (faults_of S.faults scripts.new)) (Rose (K.faults out.old) (K.faults out.new)))
+        (λ h. IsFailed (V.faults drives) (V.faults result.drives) (V.last_fault result.drives) (V.moment result.drives) (V.tells → IsServed (content_of (halves_seen V.seen drives)) (V.size drives) → ⊥) h)
+        (left_of S.left scripts.old) (Rose (faults_of S.faults scripts.old) (faults_of S.faults scripts.new)) (Rose (K.faults out.old) (K.faults out.new)))
         (λ _. ((h : Half) → HalfFailed V.moment V.faults h drives result.drives → ⊥) × (Rose (K.faults out.old) (K.faults out.new) → ⊥))
         (λ _. NoneFailed (found (content_of (halves_seen V.seen drives)) (V.size drives)) (λ h. HalfFailed V.moment V.faults h drives result.drives) (Rose (K.faults out.old) (K.faults out.new)))
         → IsDone result.status }
@@ -87,19 +87,19 @@ pub fn afs_words<V: Drives, S: Source, K: Sink>(
     ensures usage { IsUsage result.status → (c : Command) → IsCommand words.now (length scripts.old) (V.size drives) c → ⊥ }
     ensures command { ((c : Command) → IsCommand words.now (length scripts.old) (V.size drives) c → ⊥) → IsUsage result.status }
     ensures ends { (c : Command) → IsCommand words.now (length scripts.old) (V.size drives) c → Serves c (EndsAs V.tells (IsAtRest V.seen V.moment V.may_leave drives) (found (content_of (halves_seen V.seen drives)) (V.size drives)) (found (content_of (halves_seen V.seen result.drives)) (V.size result.drives))
-            (λ h. IsFailed (V.faults drives) (V.faults result.drives) (V.last_fault result.drives) (V.moment result.drives) (V.tells → IsServed (content_of (halves_seen V.seen drives)) (V.size drives) → ⊥) h)
-            (left_of S.left scripts.old) (Rose (faults_of S.faults scripts.old) (faults_of S.faults scripts.new)) (K.written out.old) (K.written out.new) (Rose (K.faults out.old) (K.faults out.new)) result.journal result.status)
+        (λ h. IsFailed (V.faults drives) (V.faults result.drives) (V.last_fault result.drives) (V.moment result.drives) (V.tells → IsServed (content_of (halves_seen V.seen drives)) (V.size drives) → ⊥) h)
+        (left_of S.left scripts.old) (Rose (faults_of S.faults scripts.old) (faults_of S.faults scripts.new)) (K.written out.old) (K.written out.new) (Rose (K.faults out.old) (K.faults out.new)) result.journal result.status)
         (λ store. FormatEnds store V.tells (found (content_of (halves_seen V.seen result.drives)) (V.size drives))
-            (IsStopped (V.faults drives) (V.faults result.drives) (V.last_fault result.drives) (V.moment result.drives))
-            (K.written out.old) (K.written out.new) (Rose (K.faults out.old) (K.faults out.new)) result.status)
+        (IsStopped (V.faults drives) (V.faults result.drives) (V.last_fault result.drives) (V.moment result.drives))
+        (K.written out.old) (K.written out.new) (Rose (K.faults out.old) (K.faults out.new)) result.status)
         (λ text. CommandEnds V.tells (found (content_of (halves_seen V.seen drives)) (V.size drives))
-            (IsFailed (V.faults drives) (V.faults result.drives) (V.last_fault result.drives) (V.moment result.drives)
-            (V.tells → IsNoStore (content_of (halves_seen V.seen drives)) (V.size drives)))
-            text (K.written out.old) (K.written out.new) (Rose (K.faults out.old) (K.faults out.new)) result.status) }
+        (IsFailed (V.faults drives) (V.faults result.drives) (V.last_fault result.drives) (V.moment result.drives)
+        (V.tells → IsNoStore (content_of (halves_seen V.seen drives)) (V.size drives)))
+        text (K.written out.old) (K.written out.new) (Rose (K.faults out.old) (K.faults out.new)) result.status) }
     // Where the files are told, those that the command wants are there, and nothing failed, a call ends well, but for want of memory.
     ensures complete { (c : Command) → IsCommand words.now (length scripts.old) (V.size drives) c → V.tells → Serves c (NothingFailed (found (content_of (halves_seen V.seen drives)) (V.size drives))
-            (λ h. IsFailed (V.faults drives) (V.faults result.drives) (V.last_fault result.drives) (V.moment result.drives) (V.tells → IsServed (content_of (halves_seen V.seen drives)) (V.size drives) → ⊥) h)
-            (left_of S.left scripts.old) (Rose (faults_of S.faults scripts.old) (faults_of S.faults scripts.new)) (Rose (K.faults out.old) (K.faults out.new)))
+        (λ h. IsFailed (V.faults drives) (V.faults result.drives) (V.last_fault result.drives) (V.moment result.drives) (V.tells → IsServed (content_of (halves_seen V.seen drives)) (V.size drives) → ⊥) h)
+        (left_of S.left scripts.old) (Rose (faults_of S.faults scripts.old) (faults_of S.faults scripts.new)) (Rose (K.faults out.old) (K.faults out.new)))
         (λ _. ((h : Half) → HalfFailed V.moment V.faults h drives result.drives → ⊥) × (Rose (K.faults out.old) (K.faults out.new) → ⊥))
         (λ _. NoneFailed (found (content_of (halves_seen V.seen drives)) (V.size drives)) (λ h. HalfFailed V.moment V.faults h drives result.drives) (Rose (K.faults out.old) (K.faults out.new)))
         → IsDone result.status }

@@ -15,10 +15,7 @@ const FORMAT: Call = (&["format", "7", "2", "64"], None);
 
 const SHOW: Call = (&["show"], None);
 
-const PLAY: Call = (
-    &["play"],
-    Some(b"begin 1\nwrite / 6869\nread /\ncommit\n"),
-);
+const PLAY: Call = (&["play"], Some(b"begin 1\nwrite / 6869\nread /\ncommit\n"));
 
 const NEW: &[u8] = b"file 1: 1\n/ -\nfile 2: 1\n/ -\n";
 
@@ -90,7 +87,11 @@ fn commands_work_one_after_the_other(rt: HostRuntime) -> Result<(), Fail> {
             b"1.1 base 1\n1.2 ok\n1.3 data 6869\n1.4 committed 2\nfile 1: 1 2\nfile 2: 1\n",
         ),
         (SHOW, 0, PLAYED),
-        ((&["check"], None), 0, b"files 2 versions 3 blocks 3 free 60\n"),
+        (
+            (&["check"], None),
+            0,
+            b"files 2 versions 3 blocks 3 free 60\n",
+        ),
         ((&["cap", "3", "1"], None), 0, b"denied object\n"),
         ((&["cap", "01", "1"], None), 1, b"usage\n"),
         (FORMAT, 0, b"file 1\nfile 2\n"),
@@ -181,10 +182,30 @@ const STORES: [(&[(usize, &[u8])], Call, u8, &[u8]); 5] = [
         0,
         b"file 1: 18446744073709551615\n/ -\nfile 2: 1\n/ -\n",
     ),
-    (&[(0, &[0])], (&["check"], None), 4, b"bad store: block 0 closed\n"),
-    (&[(1, &[0xa5])], (&["check"], None), 4, b"bad store: block 0 kind\n"),
-    (&[(1024 + 4, &[0xd0])], (&["check"], None), 4, b"bad store: block 1 code\n"),
-    (&[(1024 + 4, &[0, 0, 0, 1])], SHOW, 4, b"bad store: block 1 seen\n"),
+    (
+        &[(0, &[0])],
+        (&["check"], None),
+        4,
+        b"bad store: block 0 closed\n",
+    ),
+    (
+        &[(1, &[0xa5])],
+        (&["check"], None),
+        4,
+        b"bad store: block 0 kind\n",
+    ),
+    (
+        &[(1024 + 4, &[0xd0])],
+        (&["check"], None),
+        4,
+        b"bad store: block 1 code\n",
+    ),
+    (
+        &[(1024 + 4, &[0, 0, 0, 1])],
+        SHOW,
+        4,
+        b"bad store: block 1 seen\n",
+    ),
 ];
 
 fn patched(alloc: Global, half: &[u8], patches: &[(usize, &[u8])]) -> Result<Vec<u8>, AllocError> {
