@@ -132,12 +132,13 @@ fn a_play_that_is_cut_off_leaves_the_file_with_or_without_its_version(
 ) -> Result<(), Fail> {
     let alloc = rt.alloc();
     // The first 128 calls read both halves of the 64 blocks.
-    let mut failing = 129;
-    'calls: while failing < 400 && !played_until(&rt, alloc, failing)? {
-        failing += 1;
+    'calls: for failing in 129..400 {
+        if played_until(&rt, alloc, failing)? {
+            assert!(rt; failing > 150);
+            return Ok(());
+        }
     }
-    assert!(rt; failing > 150 && failing < 400);
-    Ok(())
+    Err("a play ends before 400 calls".into())
 }
 
 /// The halves of the store after a play: half A as it was before, and half B.
