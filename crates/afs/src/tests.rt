@@ -1,8 +1,12 @@
 //! The program's words, and files of any length.
+ghost use Rattle.std.specs.Prelude.{◌≡◌, IfOk, vec_len};
+
 use crate::{Invocation, serve};
-use afs_top::Status;
+use afs_top::{Status, afs_words};
 use drive_file::FileDrives;
-use drives::{Drives, Half};
+use drives::{Drives, Half, SureDrives};
+use page_codec::fresh_image;
+use script_text::{MemSink, MemSource};
 use std::alloc::{AllocError, Global};
 use std::fs;
 use std::test::Fail;
@@ -78,11 +82,65 @@ fn files_of_any_length_get_an_answer(rt: HostRuntime) -> Result<(), Fail> {
 #[test]
 fn a_store_stands_in_files_that_end_behind_it(rt: HostRuntime) -> Result<(), Fail> {
     let alloc = rt.alloc();
-    assert_eq!(rt; status_of(&rt, alloc, &["format", "7", "2", "65536"])?, 0);
+    assert_eq!(rt; status_of(&rt, alloc, &["format", "7", "2", "4096"])?, 0);
     assert_eq!(rt; status_of(&rt, alloc, &["check"])?, 0);
-    // The last block of half A is written, and is no place.
+    // The last block of the store is written on half A, and is no place.
     let mut drives = FileDrives::open(&rt, "a", "b").ok().ok_or("open")?;
-    assert!(rt; drives.write(Half::A, 67108863, &[7]).is_ok());
+    assert!(rt; drives.write(Half::A, 4194303, &[7]).is_ok());
     assert_eq!(rt; status_of(&rt, alloc, &["show"])?, 0);
+    Ok(())
+}
+
+/// The second version of file 1, which made `/0` and `/1`, in blocks 3 to 5, and the link to it.
+const PAGES: [(usize, &[u8]); 8] = [
+    (1024 + 82, &[0, 0, 0, 3]),
+    (3072, &[0xa5, 0x56, 0, 3, 0x90, 0, 0, 4, 0x90, 0, 0, 5]),
+    (
+        3072 + 70,
+        &[0, 0, 0, 1, 0, 0, 0, 0, 0, 0, 0, 2, 0, 0, 0, 0, 0, 0, 0, 1],
+    ),
+    (3072 + 1019, &[0, 3]),
+    (4096, &[0xa5, 0x50, 1]),
+    (4096 + 1019, &[0xff, 0xff]),
+    (5120, &[0xa5, 0x50, 1]),
+    (5120 + 1019, &[0xff, 0xff]),
+];
+
+/// A half of the new store of two files with that version.
+fn half_with_pages(alloc: Global) -> Result<Vec<u8>, AllocError>
+    ensures { IfOk result (λ half. vec_len half ≡ 65536) }
+{
+    let mut half = fresh_image(alloc, 2, 64, 7)?;
+    half.resize(65536, 0)?;
+    'patches: for (at, bytes) in PAGES {
+        'bytes: for k in 0..bytes.len() {
+            if k < half.len() && at < half.len() - k {
+                half[at + k] = bytes[k];
+            }
+        }
+    }
+    Ok(half)
+}
+
+/// What a command prints over that store.
+fn printed_with_pages(alloc: Global, word: &str) -> Result<Vec<u8>, Fail> {
+    let words = words_of(alloc, &[word])?;
+    let drives = SureDrives::of_halves(alloc, half_with_pages(alloc)?, half_with_pages(alloc)?)?;
+    let mut scripts: Vec<MemSource> = Vec::new(alloc);
+    let mut out = MemSink::of(Vec::new(alloc), Vec::new(alloc));
+    let _ = afs_words(alloc, &words, drives, &mut scripts, &mut out);
+    Ok(Vec::from_slice(alloc, out.bytes())?)
+}
+
+#[test]
+fn the_pages_of_a_version_are_counted_and_shown(rt: HostRuntime) -> Result<(), Fail> {
+    let alloc = rt.alloc();
+    let table: [(&str, &[u8]); 2] = [
+        ("check", b"files 2 versions 3 blocks 5 free 58\n"),
+        ("show", b"file 1: 1 2\n/ -\n/0 -\n/1 -\nfile 2: 1\n/ -\n"),
+    ];
+    for (word, expected) in table {
+        assert_eq!(rt; printed_with_pages(alloc, word)?.as_slice(), expected);
+    }
     Ok(())
 }
