@@ -5,7 +5,7 @@ use Rattle.drives.specs.declared.device.Half.TheVariants.{A, B}
 use Rattle.drives.specs.Changes.{Changes, Halves, HalvesLeft, LeavesNow, OnHalves}
 use Rattle.drives.proofs.Composing.{goes_on, leaves_now, viewed}
 use Rattle.pair_store.specs.Content.{IsOpen, content_of, ContentsLeft, HasContents, IsSettled, IsSettledAlways}
-use Rattle.pair_store.specs.Stages.{At, HasBody, SameElsewhere}
+use Rattle.pair_store.specs.Stages.{At, HasBody, IsStage, SameElsewhere}
 use Rattle.pair_store.specs.Blocks.{OldOrNew}
 use Rattle.pair_store.proofs.Contents.{body_content, others_content, stage_content}
 use Rattle.pair_store.proofs.HalfWriting.{Staged}
@@ -125,3 +125,21 @@ module _ {D : Type 0} (moment : D → ℕ) (left : D → Half → ℕ → List �
         subst (λ (w : List ℕ). SameElsewhere n w z.a) r.0 s.0,
         subst (λ (w : List ℕ). SameElsewhere n x.b w) (sym s.1) r.1,
       ))
+
+-- what reads give after half B alone was being written, where the block was settled
+pub stage_either : (n : ℕ) (body : List ℕ) (size : ℕ) (x y : Halves) → length body ≡ 1024 → length x.b ≡ 1024 * size → n < size → slice_index body 0 ≡ 165 → IsSettled n x → y.a ≡ x.a → SameElsewhere n x.b y.b → IsStage n body x.b y.b
+    → OldOrNew n body (content_of x) (content_of y)
+stage_either n body size x y full whole within opened settled kept range stage =
+    let same_a = subst (λ (w : List ℕ). SameElsewhere n x.a w) (sym kept) (elsewhere_same n x.a) in
+    record {
+      others = λ k ne. others_content n k x y ne same_a range;
+      here = stage_content n body x y full (omega (arith, whole, within)) opened settled kept range.size stage;
+    }
+
+-- and after half B has the new bytes
+pub body_either : (n : ℕ) (body : List ℕ) (size : ℕ) (x y : Halves) → length body ≡ 1024 → length y.b ≡ 1024 * size → n < size → slice_index body 0 ≡ 165 → SameElsewhere n x.a y.a → SameElsewhere n x.b y.b → HasBody n body y.b
+    → OldOrNew n body (content_of x) (content_of y)
+body_either n body size x y full whole within opened range_a range_b has = record {
+  others = λ k ne. others_content n k x y ne range_a range_b;
+  here = inr (body_content n body y full (omega (arith, whole, within)) opened has);
+}

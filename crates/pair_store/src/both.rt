@@ -2,8 +2,8 @@
 ghost use Rattle.std.specs.Prelude.{◌≡◌, ◌⊎◌, ℕ, ◌*◌, ◌<◌, ◌≤◌, slice_index, IfErr, IsErrOf, OnOk};
 ghost use Rattle.drives.specs.declared.device.Half.{Half};
 ghost use Rattle.drives.specs.Faults.{HasFailed};
-ghost use Rattle.drives.specs.Changes.{Changes, Halves, HalvesLeft, OnHalves};
-ghost use Rattle.pair_store.specs.Content.{ContentsLeft, IsSettledAlways};
+ghost use Rattle.drives.specs.Changes.{Changes, Halves, HalvesLeft, OnHalves, halves_seen};
+ghost use Rattle.pair_store.specs.Content.{ContentsLeft, IsSettled, IsSettledAlways, content_of};
 ghost use Rattle.pair_store.specs.Stages.{HasBody, SameElsewhere};
 ghost use Rattle.pair_store.specs.Blocks.{OldOrNew};
 
@@ -13,13 +13,16 @@ use crate::half_write::write_half;
 use drives::{Drives, Half};
 
 /// Writes a block with an open gate on both halves. Its content is the old one or the new one in each image, where it
-/// was settled in every image; all other blocks are as they were, whether it was or not.
+/// was settled in every image, and so it is in what reads give, where it was settled there; all other blocks are as they
+/// were, whether it was or not.
 pub fn write_both<V: Drives>(drives: &mut V, n: u32, body: &Block) -> Result<(), PairFault>
     requires block { n < V.size drives.old }
     requires open { slice_index body.now 0 ≡ 165 }
     ensures only { IfErr result (λ e. (e ≡ PairFault.WriteFault Half.A) ⊎ (e ≡ PairFault.WriteFault Half.B)) }
     ensures images { V.tells → IsSettledAlways V.may_leave drives.old (V.moment drives.old) n
         → Changes V.moment (ContentsLeft V.may_leave) drives.old drives.new (OldOrNew n body.now) }
+    ensures either { V.tells → IsSettled n (halves_seen V.seen drives.old)
+        → OldOrNew n body.now (content_of (halves_seen V.seen drives.old)) (content_of (halves_seen V.seen drives.new)) }
     ensures elsewhere { Changes V.moment (HalvesLeft V.may_leave) drives.old drives.new (OnHalves (λ h x y. SameElsewhere n x y)) }
     ensures done { V.tells → OnOk result ((x : Halves) → HalvesLeft V.may_leave drives.new (V.moment drives.new) x → HasBody n body.now x.a × HasBody n body.now x.b) }
     ensures seen { V.tells → OnOk result ((h : Half) → HasBody n body.now (V.seen drives.new h)) }

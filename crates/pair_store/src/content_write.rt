@@ -22,6 +22,8 @@ pub fn write_content<V: Drives>(drives: &mut V, n: BlockNo, body: &Block) -> Res
     ensures stopped { (h : Half) → IsErrOf result (PairFault.WriteFault h)
         → IsStopped (V.faults drives.old) (V.faults drives.new) (V.last_fault drives.new) (V.moment drives.new) h }
     ensures written { V.tells → OnOk result (content_of (halves_seen V.seen drives.new) n ≡ Some body.now) }
+    ensures either { V.tells → IsSettled n (halves_seen V.seen drives.old)
+        → OldOrNew n body.now (content_of (halves_seen V.seen drives.old)) (content_of (halves_seen V.seen drives.new)) }
     ensures others { V.tells → SameOthers n (content_of (halves_seen V.seen drives.old)) (content_of (halves_seen V.seen drives.new)) }
     ensures settles { V.tells → OnOk result (IsSettled n (halves_seen V.seen drives.new)) }
     ensures settles_always { V.tells → OnOk result (IsSettledAlways V.may_leave drives.new (V.moment drives.new) n) }

@@ -89,6 +89,8 @@ pub trait Blocks {
             → IsStopped (faults self.old) (faults self.new) (last_fault self.new) (moment self.new) h }
 
         ensures written { tells → OnOk result (content self.new n ≡ Some body.now) }
+        // Whether it ends well or a half fails, what reads give of a settled block is its old content or its new one.
+        ensures either { tells → settled self.old n → OldOrNew n body.now (content self.old) (content self.new) }
         ensures others { tells → SameOthers n (content self.old) (content self.new) }
         ensures settles { tells → OnOk result (settled self.new n) }
         ensures settles_always { tells → OnOk result (settled_always self.new n) }
@@ -118,6 +120,8 @@ pub trait Blocks {
             → IsStopped (faults self.old) (faults self.new) (last_fault self.new) (moment self.new) h }
 
         ensures written { tells → settled self.old n → (body : List ℕ) → content self.old n ≡ Some body → IsSet result → content self.new n ≡ Some (with_commit next body) }
+        ensures either { tells → settled self.old n → (body : List ℕ) → content self.old n ≡ Some body
+            → OldOrNew n (with_commit next body) (content self.old) (content self.new) }
         ensures unwritten { tells → LeftAlone result → SameContents (content self.old) (content self.new) }
         ensures others { tells → SameOthers n (content self.old) (content self.new) }
         ensures settles { tells → IsSet result → settled self.new n }
@@ -149,6 +153,8 @@ pub trait Blocks {
             → IsStopped (faults self.old) (faults self.new) (last_fault self.new) (moment self.new) h }
 
         ensures written { tells → settled self.old n → (body : List ℕ) → content self.old n ≡ Some body → OnOk result (content self.new n ≡ Some (without_members body)) }
+        ensures either { tells → settled self.old n → (body : List ℕ) → content self.old n ≡ Some body
+            → OldOrNew n (without_members body) (content self.old) (content self.new) }
         ensures unwritten { tells → IsRefused result → SameContents (content self.old) (content self.new) }
         ensures others { tells → SameOthers n (content self.old) (content self.new) }
         ensures settles { tells → OnOk result (settled self.new n) }

@@ -1,8 +1,9 @@
-use Rattle.std.proofs.Common.{◌≡◌, ℕ, List, length, arith, subst, sym}
+use Rattle.std.proofs.Common.{◌≡◌, ◌*◌, ℕ, List, length, arith, subst, sym}
 use Rattle.drives.specs.declared.device.Half.TheVariants.{A, B}
+use Rattle.drives.specs.Changes.{halves_seen}
 use Rattle.drives.proofs.Halves.{each_half}
 use Rattle.pair_store.specs.Stages.{HasBody, SameElsewhere}
-use Rattle.pair_store.proofs.BothWriting.{both_contents, both_elsewhere, first_contents, known_b}
+use Rattle.pair_store.proofs.BothWriting.{body_either, both_contents, both_elsewhere, first_contents, known_b, stage_either}
 use Rattle.pair_store.proofs.both.write_both.Goals as goal
 
 pub returns-in-Err-clause-images : goal.returns-in-Err-clause-images
@@ -54,3 +55,35 @@ returns-in-Ok-write_half-clause-range g c = λ tells.
     each_half _
     (subst (λ (w : List ℕ). SameElsewhere c.args.n w (g.V.Drives.seen new A)) (c.write_half.ensures.other_same tells) (c.write_half-2.ensures.range tells))
     (subst (λ (w : List ℕ). SameElsewhere c.args.n (g.V.Drives.seen old B) w) (sym (c.write_half-2.ensures.other_same tells)) (c.write_half.ensures.range tells))
+
+pub returns-in-Err-clause-either : goal.returns-in-Err-clause-either
+returns-in-Err-clause-either g c = λ tells settled.
+    let old = c.args.drives.now in
+    let full : length c.args.body.now ≡ 1024 = omega arith in
+    stage_either c.args.n c.args.body.now (g.V.Drives.size old) (halves_seen g.V.Drives.seen old) (halves_seen g.V.Drives.seen c.write_half.new.drives)
+    full (g.met.V.Drives.whole old B tells) c.requires.block c.requires.open settled
+    (c.write_half.ensures.other_same tells) (c.write_half.ensures.range tells) (c.write_half.ensures.seen_stages tells)
+
+pub returns-in-Ok-write_half-clause-either : goal.returns-in-Ok-write_half-clause-either
+returns-in-Ok-write_half-clause-either g c = λ tells settled.
+    let old = c.args.drives.now in
+    let new = c.write_half-2.new.drives in
+    let full : length c.args.body.now ≡ 1024 = omega arith in
+    let whole : length (g.V.Drives.seen new B) ≡ 1024 * g.V.Drives.size old = omega (arith, g.met.V.Drives.whole new B tells, c.write_half.ensures.size, c.write_half-2.ensures.size) in
+    body_either c.args.n c.args.body.now (g.V.Drives.size old) (halves_seen g.V.Drives.seen old) (halves_seen g.V.Drives.seen new)
+    full whole c.requires.block c.requires.open
+    (subst (λ (w : List ℕ). SameElsewhere c.args.n w (g.V.Drives.seen new A)) (c.write_half.ensures.other_same tells) (c.write_half-2.ensures.range tells))
+    (subst (λ (w : List ℕ). SameElsewhere c.args.n (g.V.Drives.seen old B) w) (sym (c.write_half-2.ensures.other_same tells)) (c.write_half.ensures.range tells))
+    (subst (λ (w : List ℕ). HasBody c.args.n c.args.body.now w) (sym (c.write_half-2.ensures.other_same tells)) (c.in-Ok.ensures.written tells))
+
+pub returns-in-Err-write_half-clause-either : goal.returns-in-Err-write_half-clause-either
+returns-in-Err-write_half-clause-either g c = λ tells settled.
+    let old = c.args.drives.now in
+    let new = c.write_half-2.new.drives in
+    let full : length c.args.body.now ≡ 1024 = omega arith in
+    let whole : length (g.V.Drives.seen new B) ≡ 1024 * g.V.Drives.size old = omega (arith, g.met.V.Drives.whole new B tells, c.write_half.ensures.size, c.write_half-2.ensures.size) in
+    body_either c.args.n c.args.body.now (g.V.Drives.size old) (halves_seen g.V.Drives.seen old) (halves_seen g.V.Drives.seen new)
+    full whole c.requires.block c.requires.open
+    (subst (λ (w : List ℕ). SameElsewhere c.args.n w (g.V.Drives.seen new A)) (c.write_half.ensures.other_same tells) (c.write_half-2.ensures.range tells))
+    (subst (λ (w : List ℕ). SameElsewhere c.args.n (g.V.Drives.seen old B) w) (sym (c.write_half-2.ensures.other_same tells)) (c.write_half.ensures.range tells))
+    (subst (λ (w : List ℕ). HasBody c.args.n c.args.body.now w) (sym (c.write_half-2.ensures.other_same tells)) (c.in-Ok.ensures.written tells))

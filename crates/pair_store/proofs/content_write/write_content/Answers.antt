@@ -3,6 +3,8 @@ use Rattle.std.proofs.lemmas.Result.{on_ok_weaker}
 use Rattle.drives.specs.declared.device.Half.{Half}
 use Rattle.drives.specs.declared.device.Half.TheVariants.{A, B}
 use Rattle.drives.specs.Changes.{Changes, Halves, HalvesLeft, OnHalves, halves_seen}
+use Rattle.pair_store.specs.Blocks.{OldOrNew}
+use Rattle.pair_store.specs.Content.{IsSettled, content_of}
 use Rattle.pair_store.specs.Stages.{HasBody, SameElsewhere}
 use Rattle.pair_store.proofs.Contents.{body_content, others_content}
 use Rattle.pair_store.proofs.SettledLaws.{other_contents, other_settled, settled_body, settled_elsewhere}
@@ -77,3 +79,9 @@ pub returns-clause-images_others : goal.returns-clause-images_others
 returns-clause-images_others g c =
     other_contents g.V.Drives.moment g.V.Drives.may_leave c.args.drives.now c.write_both.new.drives c.args.n
     (subst (λ (m : ℕ). Changes g.V.Drives.moment (HalvesLeft g.V.Drives.may_leave) c.args.drives.now c.write_both.new.drives (OnHalves (λ h x y. SameElsewhere m x y))) c.get.ensures.value c.write_both.ensures.elsewhere)
+
+pub returns-clause-either : goal.returns-clause-either
+returns-clause-either g c =
+    let before = halves_seen g.V.Drives.seen c.args.drives.now in
+    let after = halves_seen g.V.Drives.seen c.write_both.new.drives in
+    λ tells settled. subst (λ (m : ℕ). IsSettled m before → OldOrNew m c.args.body.now (content_of before) (content_of after)) c.get.ensures.value (c.write_both.ensures.either tells) settled

@@ -1,4 +1,3 @@
-use Rattle.drives.specs.Changes.{Changes}
 use Rattle.pair_store.specs.Blocks.{SameContents}
 use Rattle.pair_store.specs.Content.{ContentsLeft}
 use Rattle.pair_store.proofs.PageWriting.{lifted}
