@@ -11,6 +11,3 @@ mod write;
 pub use formatting::format;
 pub use store::NewStore;
 pub use unformatted::Unformatted;
-
-#[cfg(test)]
-mod tests;

@@ -77,6 +77,3 @@ pub fn close_block<V: Drives>(drives: &mut V, n: BlockNo) -> Result<(), PairFaul
 {
     close_both(drives, n.get())
 }
-
-#[cfg(test)]
-mod tests;

@@ -23,6 +23,3 @@ pub use on_halves::Pair;
 pub use outcome::{Mended, Tas};
 pub use page_codec::Block;
 pub use store::Blocks;
-
-#[cfg(test)]
-mod tests;

@@ -22,6 +22,3 @@ pub use counts::places_are_counted;
 pub use refused::CheckRefused;
 pub use rows::root_block;
 pub use version::FoundVersion;
-
-#[cfg(test)]
-mod tests;

@@ -1,8 +1,8 @@
 //! New stores on halves in memory.
 ghost use Rattle.std.specs.Prelude.{◌≡◌, ◌≤◌, ◌*◌, ◌+◌, IfOk, length};
 
-use crate::*;
 use drives::{Drives, Half, MemDrives, Memory, Pick};
+use new_store::*;
 use std::alloc::Global;
 
 mod bytes;

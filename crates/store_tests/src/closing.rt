@@ -1,8 +1,9 @@
 //! What closing costs and leaves, by the gates that it finds.
 ghost use Rattle.std.specs.Prelude.{◌≡◌, IfOk, length};
 
-use super::*;
-use drives::{MemDrives, Memory};
+use afs_base::BlockNo;
+use drives::{Drives, Half, MemDrives, Memory};
+use pair_store::{PairFault, close_block};
 use std::alloc::{AllocError, Global};
 use std::test::*;
 

@@ -1,7 +1,6 @@
 //! Stores made by hand: a file with two versions, a member that is not linked yet, and each cause once.
 ghost use Rattle.std.specs.Prelude.{◌≡◌, ◌*◌, length, IfOk};
 
-use crate::{Chain, CheckRefused, check};
 use afs_base::BlockNo;
 use drives::MemDrives;
 use page_codec::{Why, fresh_image};
@@ -9,6 +8,7 @@ use pair_store::Pair;
 use std::alloc::{AllocError, Global};
 use std::process::Abort;
 use std::test::Fail;
+use store_check::{Chain, CheckRefused, check};
 
 /// Bytes to be put at an offset.
 type Patch = (usize, &'static [u8]);

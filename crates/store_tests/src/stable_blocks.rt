@@ -1,9 +1,9 @@
 //! Calls on halves of three blocks: block 0 is closed, block 2 is open, and block 1 is what the call is made on.
 ghost use Rattle.std.specs.Prelude.{◌≡◌, ◌*◌, ◌+◌, ◌<◌, ◌≤◌, IfOk, length, slice_index};
 
-use crate::*;
 use afs_base::BlockNo;
 use drives::{Drives, MemDrives, Memory, Pick};
+use pair_store::*;
 use std::alloc::{AllocError, Global};
 
 mod calls;
