@@ -6,6 +6,3 @@ mod states;
 
 pub use crate::block_map::{BlockMap, NoSpace};
 pub use crate::states::BlockState;
-
-#[cfg(test)]
-mod tests;

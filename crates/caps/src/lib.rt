@@ -10,6 +10,3 @@ mod table;
 pub use crate::capability::{BadHex, Capability};
 pub use crate::denied::{Denied, DeniedWhy};
 pub use crate::table::{grant, mint, restrict};
-
-#[cfg(test)]
-mod tests;

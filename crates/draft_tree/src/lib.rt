@@ -14,6 +14,3 @@ pub use draft::Draft;
 pub use laws::level_law;
 pub use slot_marks::SlotMarks;
 pub use tree_model::Memory;
-
-#[cfg(test)]
-mod tests;

@@ -17,6 +17,3 @@ pub use device::{Drives, Half};
 pub use memory::MemDrives;
 pub use out_of_memory::Memory;
 pub use sure::SureDrives;
-
-#[cfg(test)]
-mod tests;

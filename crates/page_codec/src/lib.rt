@@ -37,8 +37,5 @@ pub use table_reading::{PART_ENTRIES, decode_part, decode_root};
 pub use version::VersionPage;
 pub use why::{BadPage, Why};
 
-#[cfg(test)]
-mod tests;
-
 /// A block of a store: 1,024 bytes.
 pub type Block = [u8; 1024];

@@ -40,6 +40,3 @@ pub use crate::sink::Sink;
 pub use crate::source::Source;
 pub use crate::sure_sink::SureSink;
 pub use crate::sure_source::SureSource;
-
-#[cfg(test)]
-mod tests;

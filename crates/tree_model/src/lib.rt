@@ -15,6 +15,3 @@ pub use memory::Memory;
 pub use merge::merge_law;
 pub use step::{Reply, Step};
 pub use tree::Tree;
-
-#[cfg(test)]
-mod tests;

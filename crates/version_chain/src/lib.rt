@@ -13,6 +13,3 @@ pub use chain::Chain;
 pub use flush::Flush;
 pub use head::Head;
 pub use laws::{next_law, whole_law};
-
-#[cfg(test)]
-mod tests;

@@ -1,9 +1,9 @@
-use crate::{
+use afs_base::{ClientNo, Failed, Kind, PageData, Path, Slot};
+use caps::{Capability, Denied, DeniedWhy};
+use script_text::{
     Command, FileName, Files17, LineRefusal, LineReply, LineWhy, MemSink, MemSource, Mode, Script,
     ScriptRefused, Serials, Sink, Source, parse, print_reply,
 };
-use afs_base::{ClientNo, Failed, Kind, PageData, Path, Slot};
-use caps::{Capability, Denied, DeniedWhy};
 use std::alloc::{AllocError, Global};
 use std::process::Abort;
 use std::test::Fail;

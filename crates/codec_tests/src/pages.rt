@@ -1,6 +1,6 @@
 ghost use Rattle.std.specs.Prelude.{◌<◌, IfSome};
 
-use super::*;
+use page_codec::*;
 use std::process::Abort;
 
 mod causes;

@@ -1,5 +1,5 @@
-use crate::{BlockMap, BlockState, NoSpace};
 use afs_base::{BlockNo, ClientNo};
+use block_map::{BlockMap, BlockState, NoSpace};
 use std::test::Fail;
 
 #[test]

@@ -1,7 +1,7 @@
 // Images by their picks, both implementations side by side, and halves that tell nothing.
 ghost use Rattle.std.specs.Prelude.{◌≡◌, ◌↔◌, ℕ, ◌+◌, ◌-◌, ◌*◌, ◌^◌, ◌<◌, ◌≤◌, min, [], IsErr, OnErr, OnOk};
 
-use crate::*;
+use drives::*;
 use std::alloc::{AllocError, Global};
 use std::test::Fail;
 

@@ -1,7 +1,7 @@
 ghost use Rattle.std.specs.Prelude.{◌≡◌, ◌<◌, length, OnOk, IfOk, IfSome};
 
-use crate::{BoxDraft, Draft, SlotMarks};
 use afs_base::{BlockNo, PageData, Path, Slot};
+use draft_tree::{BoxDraft, Draft, SlotMarks};
 use page_codec::{
     Members, Page, Reference, VersionPage, decode_page, decode_version, encode_page, encode_version,
 };

@@ -1,4 +1,3 @@
-use crate::{Chain, Flush};
 use afs_base::{BlockNo, ClientNo, PageData, Path, Slot};
 use block_map::BlockMap;
 use draft_tree::{BoxDraft, Draft, Memory};
@@ -8,6 +7,7 @@ use std::alloc::Global;
 use std::process::Abort;
 use std::test::Fail;
 use tree_model::{Child, Step};
+use version_chain::{Chain, Flush};
 
 mod blocks;
 mod chains;

@@ -1,4 +1,4 @@
-use crate::{BadHex, Capability, DeniedWhy, grant, mint, restrict};
+use caps::{BadHex, Capability, DeniedWhy, grant, mint, restrict};
 use page_codec::{Table, decode_root};
 use std::alloc::Global;
 use std::test::Fail;

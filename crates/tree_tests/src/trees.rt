@@ -1,8 +1,8 @@
-use crate::{Child, Memory, Reply, Step, Tree, accesses, first_clash};
 use afs_base::{Kind, PageData, Path, Slot};
 use std::alloc::Global;
 use std::process::Abort;
 use std::test::Fail;
+use tree_model::{Child, Memory, Reply, Step, Tree, accesses, first_clash};
 
 type Place = (Path, Kind);
 
