@@ -11,8 +11,9 @@ use Rattle.page_codec.specs.Values.{PageValue, ReferenceValue}
 use Rattle.draft_model.specs.Places.{Store, Holds, block_at, slot_block}
 use Rattle.store_model.specs.Walk.{Blocks}
 use Rattle.store_model.specs.Laws.{pages_of}
-use Rattle.tree_listing.specs.Listing.{Entry, and_then, page_named, pages_named, pages_from, pages_of_version, root_in, slots_pages}
-use Rattle.tree_listing.specs.Results.{AppendsTree, IsRising, lines_under}
+use Rattle.tree_listing.specs.FirstFault.{and_then, page_named, root_in}
+use Rattle.tree_listing.specs.Results.{AppendsTree}
+use Rattle.tree_listing.specs.Walk.{Entry, IsRising, lines_under, pages_from, pages_named, pages_of_version, slots_pages}
 use Rattle.tree_listing.proofs.Ordered.{sorted_first, find_root}
 use Rattle.tree_listing.proofs.Slots.{Part, IsOrdered, Walked, SlotWalked, SlotsWalked, slots_walked}
 use Rattle.tree_listing.proofs.Decoding.{level_high, named_page, found_root}

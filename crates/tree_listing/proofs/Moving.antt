@@ -20,8 +20,10 @@ use Rattle.tree_listing.proofs.Held.{tree_of}
 use Rattle.tree_model.specs.Trees.{Tree}
 use Rattle.std.specs.FinMap as finmap
 use Rattle.page_codec.specs.declared.why.Why.{Why}
-use Rattle.tree_listing.specs.Listing.{Entry, and_then, under, blocks_of, slot_pages, slots_pages, pages_from, pages_named, pages_of_version, root_in, EachBelow, EachBelowSlots, IsOpen}
-use Rattle.tree_listing.specs.Results.{AppendsTree, Gives, IsNoCause, Stops, Lists, Grows, IsRising, AreBelow, AreUnder, lines_under}
+use Rattle.tree_listing.specs.Listing.{EachBelow, EachBelowSlots, IsOpen, blocks_of}
+use Rattle.tree_listing.specs.FirstFault.{and_then, root_in}
+use Rattle.tree_listing.specs.Results.{AppendsTree, Gives, Grows, IsNoCause, Stops}
+use Rattle.tree_listing.specs.Walk.{AreBelow, AreUnder, Entry, IsRising, Lists, lines_under, pages_from, pages_named, pages_of_version, slot_pages, slots_pages, under}
 use Rattle.tree_listing.proofs.Ordered.{rising_first, below_longer}
 
 -- ---- reads

@@ -6,7 +6,8 @@ use Rattle.std.specs.FinMap.Entries.{find, is_sorted}
 use Rattle.afs_base.specs.Path.{path_cmp}
 use Rattle.page_codec.specs.Values.{ReferenceValue}
 use Rattle.store_model.specs.Walk.{Refused}
-use Rattle.tree_listing.specs.Listing.{Entry, and_then, under, slot_pages, slots_pages}
+use Rattle.tree_listing.specs.FirstFault.{and_then}
+use Rattle.tree_listing.specs.Walk.{Entry, slot_pages, slots_pages, under}
 use Rattle.tree_listing.proofs.Ordered.{AllFrom, find_under, find_earlier, find_other, find_append, sorted_join, from_join}
 
 -- what a tree, or a part of one, has at each path
