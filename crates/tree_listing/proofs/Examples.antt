@@ -1,5 +1,5 @@
 -- The first faults of versions made by hand. That the walk stops there is checked by computing.
-use Rattle.std.proofs.Common.{◌≡◌, ℕ, List, [], ◌∷◌, Result, Ok, Err, refl}
+use Rattle.std.proofs.Common.{◌≡◌, ℕ, List, [], ◌∷◌, Result, refl, ap, arith}
 use Rattle.page_codec.specs.declared.why.Why.TheVariants as why
 use Rattle.store_model.specs.Walk.{Blocks, Refused}
 use Rattle.store_model.specs.Examples.{empty_slot, shared}
@@ -37,7 +37,7 @@ pub not_the_shallow : IsFirstFault (six two_faults) 1 (refused_at 5 why.Closed) 
 not_the_shallow h = no (first_fault_is_one (six two_faults) 1 (refused_at 4 why.Level) (refused_at 5 why.Closed) deeper_first h)
   where
     no : refused_at 4 why.Level ≡ refused_at 5 why.Closed → ⊥
-    no e = absurd cc
+    no e = let k : 4 ≡ 5 = ap (λ (r : Refused). r.block) e in absurd (Prim.omega (arith, k))
 
 -- slots ascend
 pub lower_slot_first : IsFirstFault (six two_levels) 1 (refused_at 2 why.Level)

@@ -1,23 +1,20 @@
 -- The walk of a version stops at the first fault, and a version has one first fault at the most.
-use Rattle.std.proofs.Common.{◌≡◌, ◌⊎◌, inl, inr, ℕ, zero, suc, ◌+◌, ◌-◌, ◌==◌, ◌≤◌, ◌<◌, nat_lt, Bool, true, false, cond, List, [], ◌∷◌, ◌++◌, length, take, map, Option, Some, None, is_some, Result, Ok, Err, refl, sym, ap, subst, ◌∙◌, arith, slice_get, eqb-true}
-use Rattle.std.specs.List.{list_any}
+use Rattle.std.proofs.Common.{◌≡◌, ◌⊎◌, inl, inr, ℕ, zero, suc, ◌+◌, ◌-◌, List, [], ◌∷◌, ◌++◌, length, take, map, Option, Some, None, Result, Ok, Err, refl, sym, ap, subst, ◌∙◌, arith, slice_get}
 use Rattle.std.specs.Option.{option_and_then}
+use Rattle.std.specs.FinMap as finmap
 use Rattle.std.specs.declared.cmp.Ordering.{Ordering}
 use Rattle.std.specs.declared.cmp.Ordering.TheVariants.{Less, Equal, Greater}
 use Rattle.std.specs.Ordering.{ordering_reverse}
 use Rattle.afs_base.specs.Path.{path_cmp}
 use Rattle.tree_model.proofs.Paths.{path_total, path_only}
-use Rattle.page_codec.specs.declared.why.Why.{Why}
-use Rattle.page_codec.specs.declared.why.Why.TheVariants.{Reference, Level}
-use Rattle.page_codec.specs.Values.{PageValue, ReferenceValue, VersionValue}
-use Rattle.page_codec.specs.Bounds.{is_used}
-use Rattle.page_codec.specs.Causes.{page_of, version_of}
+use Rattle.page_codec.specs.Values.{PageValue, ReferenceValue}
 use Rattle.draft_model.specs.Places.{Store, block_at, slot_block}
 use Rattle.store_model.specs.Walk.{Blocks, Refused}
 use Rattle.store_model.specs.Laws.{pages_of}
-use Rattle.tree_listing.specs.FirstFault.{HasFault, IsFirstFault, FirstFaultIsOne, above, and_then, block_named, held_in, of_block, page_as, page_named, root_in, with_level}
+use Rattle.tree_listing.specs.FirstFault.{HasFault, HeldHasNoFault, IsFirstFault, FirstFaultIsOne, above, and_then, page_as, page_named, root_in}
 use Rattle.tree_listing.specs.Walk.{Entry, under, slot_pages, slots_pages, pages_from, pages_named, pages_of_version}
 use Rattle.tree_listing.proofs.Ordered.{cmp_under, cmp_less}
+use Rattle.tree_listing.proofs.Held.{down, some_is, walked_root, walked_tree}
 use Rattle.tree_listing.proofs.Decoding.{leaf_slots, named_level, named_reads, root_level, root_reads}
 
 -- ---- the first of any faults
@@ -82,9 +79,6 @@ SlotFault F slot o (s ∷ p) c = (s ≡ slot) × (m : ℕ) × (o ≡ Some m) × 
 abbrev SlotsFault : (ℕ → Faults) → ℕ → List ReferenceValue → List ℕ → Refused → Type 0
 SlotsFault F slot refs [] c = ⊥
 SlotsFault F slot refs (s ∷ p) c = (i : ℕ) × (s ≡ slot + i) × (m : ℕ) × (option_and_then (λ (r : ReferenceValue). r.block) (slice_get refs i) ≡ Some m) × F m p c
-
-some_is : {X : Type 0} {x y : X} → Some x ≡ Some y → x ≡ y
-some_is h = cc
 
 slot_agrees : (F : ℕ → Faults) (pages : ℕ → Result (List Entry) Refused) → ((m : ℕ) → Agrees (pages m) (F m)) → (slot : ℕ) (o : Option ℕ) → Agrees (slot_pages pages slot o) (SlotFault F slot o)
 slot_agrees F pages each slot None = λ p c f. no p c f
@@ -255,10 +249,6 @@ version_agrees blocks root = of (root_in blocks root) refl
 above_under : (s t : ℕ) (p : List ℕ) → above (s ∷ t ∷ p) ≡ s ∷ above (t ∷ p)
 above_under s t p = ap (λ (k : ℕ). take k (s ∷ t ∷ p)) {y = suc (length (t ∷ p) - 1)} (Prim.omega arith)
 
-down : (store : Store) (b s : ℕ) (p : List ℕ) (page : PageValue) → store b ≡ Some page
-    → block_at store b (s ∷ p) ≡ option_and_then (λ c. block_at store c p) (slot_block page s)
-down store b s p page e = ap (λ o. option_and_then (λ c. block_at store c p) (option_and_then (λ page. slot_block page s) o)) e
-
 -- the block whose page names the one at a path from block m on, which itself is named in `namer`
 abbrev namer_at : Store → ℕ → ℕ → List ℕ → Option ℕ
 namer_at store namer m [] = Some namer
@@ -323,14 +313,19 @@ fault_from blocks level namer m [] c h =
     ap (λ (k : ℕ). page_named blocks k m level) (some_is h.named_in) ∙ ap (λ (k : ℕ). page_named blocks h.by k level) (some_is h.lies_in)
     ∙ ap (page_named blocks h.by h.block) (Prim.omega arith) ∙ h.refused
 fault_from blocks level namer m (s ∷ p) c h =
-    let t = step_of (pages_of blocks.content) m s p h.block h.lies_in in
-    (t.page, t.at, t.block, t.named, fault_from blocks (suc level) m t.block p c (record {
-      by = h.by;
-      block = h.block;
-      named_in = sym (namer_down (pages_of blocks.content) namer m s t.block p t.page t.at t.named) ∙ h.named_in;
-      lies_in = sym (block_down (pages_of blocks.content) m s t.block p t.page t.at t.named) ∙ h.lies_in;
-      refused = ap (page_named blocks h.by h.block) (Prim.omega arith) ∙ h.refused;
-    }))
+    let t = step_of (pages_of blocks.content) m s p h.block h.lies_in in (
+      t.page,
+      t.at,
+      t.block,
+      t.named,
+      fault_from blocks (suc level) m t.block p c (record {
+        by = h.by;
+        block = h.block;
+        named_in = sym (namer_down (pages_of blocks.content) namer m s t.block p t.page t.at t.named) ∙ h.named_in;
+        lies_in = sym (block_down (pages_of blocks.content) m s t.block p t.page t.at t.named) ∙ h.lies_in;
+        refused = ap (page_named blocks h.by h.block) (Prim.omega arith) ∙ h.refused;
+      }),
+    )
 
 to_paths : (blocks : Blocks) (root : ℕ) (p : List ℕ) (c : Refused) → VersionFault blocks root p c → HasFault blocks root p c
 to_paths blocks root [] c f = record { namer = root; block = root; named_in = refl; lies_in = refl; refused = f }
@@ -372,6 +367,9 @@ pub no_fault : (blocks : Blocks) (root : ℕ) (entries : List Entry) → pages_o
 no_fault blocks root entries e =
     let P : Result (List Entry) Refused → Type 0 = λ o. Agrees o (HasFault blocks root) in
     subst P e (walk_agrees blocks root)
+
+pub held_has_no_fault : HeldHasNoFault
+held_has_no_fault blocks root tree holds low = no_fault blocks root (finmap.entries tree) (walked_tree blocks root tree (walked_root blocks root tree holds low))
 
 -- a page is at fault for one cause
 one_cause : (blocks : Blocks) (root : ℕ) (path : List ℕ) (a b : Refused) → HasFault blocks root path a → HasFault blocks root path b → a ≡ b

@@ -1,5 +1,5 @@
 -- Versions made by hand, and which of their pages are at fault. Each line is checked by computing.
-use Rattle.std.specs.Prelude.{◌≡◌, ℕ, List, [], ◌∷◌, Option, Some, None, Result, refl}
+use Rattle.std.specs.Prelude.{ℕ, List, [], ◌∷◌, Option, Some, None, Result, refl}
 use Rattle.page_codec.specs.declared.why.Why.{Why}
 use Rattle.page_codec.specs.declared.why.Why.TheVariants as why
 use Rattle.page_codec.specs.Values.{PageValue, ReferenceValue}

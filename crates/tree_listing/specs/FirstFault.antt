@@ -1,14 +1,16 @@
 -- The first fault of a version: of all its pages that are not lawful the one at the least path, and why it is not lawful.
-use Rattle.std.specs.Prelude.{◌≡◌, ℕ, ◌-◌, ◌==◌, nat_lt, List, [], ◌∷◌, length, take, Option, Some, None, Result, Ok, Err, if◌then◌else◌}
+use Rattle.std.specs.Prelude.{◌≡◌, ℕ, ◌<◌, ◌-◌, ◌==◌, nat_lt, List, [], ◌∷◌, length, take, Option, Some, None, Result, Ok, Err, if◌then◌else◌}
 use Rattle.std.specs.declared.cmp.Ordering.TheVariants.{Less}
 use Rattle.afs_base.specs.Path.{path_cmp}
+use Rattle.tree_model.specs.Trees.{Tree}
 use Rattle.page_codec.specs.declared.why.Why.{Why}
 use Rattle.page_codec.specs.declared.why.Why.TheVariants.{Closed, Reference, Level}
 use Rattle.page_codec.specs.Values.{PageValue}
 use Rattle.page_codec.specs.Causes.{page_of, version_of}
-use Rattle.draft_model.specs.Places.{block_at}
+use Rattle.draft_model.specs.Places.{Holds, block_at}
 use Rattle.store_model.specs.Walk.{Blocks, Refused}
 use Rattle.store_model.specs.Laws.{pages_of}
+use Rattle.tree_listing.specs.Listing.{EachBelow}
 
 -- ---- one block
 
@@ -72,3 +74,9 @@ pub record IsFirstFault (blocks : Blocks) (root : ℕ) (cause : Refused) : Type 
 -- A version has one first fault at the most.
 abbrev pub FirstFaultIsOne : Type 0
 FirstFaultIsOne = (blocks : Blocks) (root : ℕ) (a b : Refused) → IsFirstFault blocks root a → IsFirstFault blocks root b → a ≡ b
+
+-- Where the blocks hold a tree, and are the store's, no page is at fault.
+abbrev pub HeldHasNoFault : Type 0
+HeldHasNoFault =
+    (blocks : Blocks) (root : ℕ) (tree : Tree) → Holds (pages_of blocks.content) root tree → EachBelow (λ b. b < blocks.count) (pages_of blocks.content) root
+    → (path : List ℕ) (cause : Refused) → HasFault blocks root path cause → ⊥

@@ -7,7 +7,7 @@ mod listing;
 mod reading;
 mod refused;
 
-pub use laws::first_fault_law;
+pub use laws::{first_fault_law, held_law};
 pub use listing::list_tree;
 pub use refused::ListingRefused;
 

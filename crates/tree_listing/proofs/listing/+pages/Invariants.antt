@@ -1,5 +1,4 @@
-use Rattle.std.proofs.Common.{◌*◌, ◌+◌, ◌≡◌, ℕ, List, Option}
-use Rattle.draft_model.specs.Places.{Store}
+use Rattle.std.proofs.Common.{◌*◌, ◌+◌}
 use Rattle.store_model.specs.Laws.{pages_of}
 use Rattle.store_check.specs.Since.{OnlyRead}
 use Rattle.tree_listing.specs.Listing.{EachBelowSlots, blocks_of}

@@ -1,4 +1,4 @@
-use Rattle.std.proofs.Common.{◌≡◌, ℕ, List, [], ◌∷◌, ◌++◌, Option, Result, Ok, Err, Some, refl, sym, ap, subst, ◌∙◌}
+use Rattle.std.proofs.Common.{◌≡◌, ℕ, List, [], Result, Ok, Err, refl, sym, ap, subst, ◌∙◌}
 use Rattle.std.proofs.lemmas.Result.{err_from_is_err_and}
 use Rattle.page_codec.specs.Values.{PageValue}
 use Rattle.store_model.specs.Walk.{Blocks, Refused}
@@ -6,9 +6,8 @@ use Rattle.store_model.specs.Laws.{pages_of}
 use Rattle.store_check.proofs.ReadOnly.{read_on}
 use Rattle.tree_listing.specs.declared.refused.ListingRefused.{ListingRefused}
 use Rattle.tree_listing.specs.Listing.{EachBelow, EachBelowSlots, IsOpen, blocks_of}
-use Rattle.tree_listing.specs.FirstFault.{and_then, root_in}
-use Rattle.tree_listing.specs.Results.{Stops}
-use Rattle.tree_listing.specs.Walk.{IsRising, Lists, pages_from, pages_of_version}
+use Rattle.tree_listing.specs.FirstFault.{root_in}
+use Rattle.tree_listing.specs.Walk.{IsRising, Lists, pages_from}
 use Rattle.tree_listing.proofs.Decoding.{each_slot, has_content, root_reads}
 use Rattle.tree_listing.proofs.Held.{walked_root}
 use Rattle.tree_listing.proofs.Faults.{first_fault}
