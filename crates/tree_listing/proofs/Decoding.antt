@@ -1,11 +1,14 @@
 -- Which page a block holds, and as what it is read.
-use Rattle.std.proofs.Common.{◌≡◌, ◌⊎◌, inl, inr, ℕ, suc, ◌≤◌, ◌<◌, ◌==◌, nat_lt, Bool, true, false, cond, List, Option, Some, None, option_map, Result, Ok, Err, refl, sym, ap, subst, ◌∙◌, arith, slice_index, slice_get, eq-eqb, [], ◌∷◌}
+use Rattle.std.proofs.Common.{◌≡◌, ◌⊎◌, inl, inr, ℕ, suc, zero, ◌≤◌, ◌<◌, ◌==◌, ◌||◌, nat_lt, map, is_some, eqb-true, true≢false, Bool, true, false, cond, List, Option, Some, None, option_map, Result, Ok, Err, refl, sym, ap, subst, ◌∙◌, arith, slice_index, slice_get, eq-eqb, [], ◌∷◌}
 use Rattle.std.specs.Option.{option_and_then}
 use Rattle.std.proofs.lemmas.Bool.Decides.{nat_tests}
 use Rattle.page_codec.specs.declared.why.Why.{Why}
 use Rattle.page_codec.specs.declared.why.Why.TheVariants.{Reference, Level}
 use Rattle.page_codec.specs.Values.{PageValue, ReferenceValue, VersionValue}
-use Rattle.page_codec.specs.Reading.{frame_value}
+use Rattle.std.specs.List.{list_any}
+use Rattle.page_codec.specs.Bounds.{is_used}
+use Rattle.page_codec.specs.Reading.{frame_value, reference, slots}
+use Rattle.page_codec.proofs.SlotLaws.{unused_references}
 use Rattle.page_codec.specs.Causes.{page_of, version_of, page_causes, first_cause}
 use Rattle.page_codec.specs.Facts.{PageFacts}
 use Rattle.page_codec.proofs.FactLaws.{PageFacts-none}
@@ -13,7 +16,8 @@ use Rattle.draft_model.specs.Places.{Store, block_at}
 use Rattle.store_model.specs.Walk.{Blocks, Refused}
 use Rattle.store_model.specs.Laws.{page_of_block, pages_of, read_of}
 use Rattle.store_model.proofs.Reading.{Content, Uncaused, uncaused, reads_version, reads_page}
-use Rattle.tree_listing.specs.Listing.{EachBelow, EachBelowSlots, and_then, of_block, held_in, with_level, block_named, page_named, root_in}
+use Rattle.tree_listing.specs.Listing.{EachBelow, EachBelowSlots}
+use Rattle.tree_listing.specs.FirstFault.{and_then, block_named, held_in, of_block, page_named, root_in, with_level}
 
 -- a block was read as a page below `/`, or as a version page
 pub record IsRead (content : Content) (n : ℕ) (page : PageValue) : Type 0 where
@@ -162,6 +166,70 @@ root_reads blocks n page e = of (nat_lt n blocks.count) e
         → pages_of blocks.content n ≡ Some page
     of true h = held (blocks.content n) refl h
     of false h = absurd cc
+
+-- .. and a page of the level that was asked for
+pub named_level : (blocks : Blocks) (namer n level : ℕ) (page : PageValue) → page_named blocks namer n level ≡ Ok page → page.level ≡ level
+unfolding page_named
+named_level blocks namer n level page e = held (block_named blocks namer n) e
+  where
+    leveled : (p : PageValue) (b : Bool) → p.level == level ≡ b → of_block n (cond b (Ok p) (Err Level)) ≡ Ok page → page.level ≡ level
+    leveled p true same h = let one : p ≡ page = cc in ap (λ x. x.level) (sym one) ∙ eqb-true p.level level same
+    leveled p false same h = absurd cc
+
+    decoded : (r : Result PageValue Why) → of_block n (and_then r (with_level level)) ≡ Ok page → page.level ≡ level
+    decoded (Ok p) h = leveled p (p.level == level) refl h
+    decoded (Err why) h = absurd cc
+
+    held : (o : Result (List ℕ) Refused) → and_then o (λ bytes. of_block n (and_then (page_of bytes) (with_level level))) ≡ Ok page → page.level ≡ level
+    held (Ok bytes) h = decoded (page_of bytes) h
+    held (Err cause) h = absurd cc
+
+pub root_level : (blocks : Blocks) (n : ℕ) (page : PageValue) → root_in blocks n ≡ Ok page → page.level ≡ 0
+unfolding root_in block_named
+root_level blocks n page e = of (nat_lt n blocks.count) e
+  where
+    decoded : (bytes : List ℕ) (r : Result VersionValue Why) → blocks.content n ≡ Some bytes → version_of bytes ≡ r
+        → of_block n (and_then r (λ version. Ok version.page)) ≡ Ok page → page.level ≡ 0
+    decoded bytes (Ok version) at is h = let same : version.page ≡ page = cc in version_level blocks.content n bytes version page at is same
+    decoded bytes (Err why) at is h = absurd cc
+
+    held : (o : Option (List ℕ)) → blocks.content n ≡ o → and_then (of_block n (held_in o)) (λ bytes. of_block n (and_then (version_of bytes) (λ version. Ok version.page))) ≡ Ok page
+        → page.level ≡ 0
+    held None at h = absurd cc
+    held (Some bytes) at h = decoded bytes (version_of bytes) at refl h
+
+    of : (b : Bool) → and_then (cond b (of_block n (held_in (blocks.content n))) (Err (record { block = n; why = Reference }))) (λ bytes. of_block n (and_then (version_of bytes) (λ version. Ok version.page))) ≡ Ok page
+        → page.level ≡ 0
+    of true h = held (blocks.content n) refl h
+    of false h = absurd cc
+
+-- a page of level 7 names no page
+unused_slot : (refs : List ReferenceValue) → list_any is_used refs ≡ false → (s : ℕ) → option_and_then (λ (r : ReferenceValue). r.block) (slice_get refs s) ≡ None
+unused_slot [] h s = refl
+unused_slot (r ∷ refs) h zero = of r.block h
+  where
+    of : (o : Option ℕ) → (is_some o || list_any is_used refs) ≡ false → o ≡ None
+    of None h = refl
+    of (Some n) h = absurd (true≢false h)
+unused_slot (r ∷ refs) h (suc s) = unused_slot refs (of (is_used r) h) s
+  where
+    of : (b : Bool) → (b || list_any is_used refs) ≡ false → list_any is_used refs ≡ false
+    of true h = absurd (true≢false h)
+    of false h = h
+
+frame_refs : (bytes : List ℕ) → (frame_value bytes).refs ≡ map reference (slots bytes)
+unfolding frame_value
+frame_refs bytes = refl
+
+pub leaf_slots : (content : Content) (n : ℕ) (page : PageValue) → pages_of content n ≡ Some page → page.level ≡ 7 → (s : ℕ) → option_and_then (λ (r : ReferenceValue). r.block) (slice_get page.refs s) ≡ None
+leaf_slots content n page e deep =
+    let r = is_read content n page e in
+    let p : page_of r.bytes ≡ Ok page = read_below content n page r (Prim.omega (arith, deep)) in
+    let u : Uncaused (first_cause (page_causes r.bytes)) (frame_value r.bytes) page = uncaused (first_cause (page_causes r.bytes)) (frame_value r.bytes) page p in
+    let facts : PageFacts r.bytes = PageFacts-none r.bytes u.none in
+    let level : slice_index r.bytes 2 ≡ page.level = sym (frame_level r.bytes) ∙ ap (λ p. p.level) u.value in
+    let refs : map reference (slots r.bytes) ≡ page.refs = sym (frame_refs r.bytes) ∙ ap (λ p. p.refs) u.value in
+    unused_slot page.refs (ap (list_any is_used) (sym refs) ∙ unused_references (slots r.bytes) (facts.frame.leaf (level ∙ deep)))
 
 -- a block that holds a page has content
 pub has_content : (content : Content) (n : ℕ) (page : PageValue) → pages_of content n ≡ Some page → content n ≡ None → ⊥

@@ -1,5 +1,5 @@
 -- Where blocks hold a tree, the walk down from its root meets the tree's entries in their order.
-use Rattle.std.proofs.Common.{◌≡◌, ◌⊎◌, inl, inr, ℕ, zero, suc, ◌+◌, ◌-◌, ◌≤◌, ◌<◌, Bool, true, false, cond, List, [], ◌∷◌, ◌++◌, length, Option, Some, None, Result, Ok, refl, sym, ap, subst, ◌∙◌, arith, slice_get}
+use Rattle.std.proofs.Common.{◌≡◌, ℕ, zero, suc, ◌+◌, ◌-◌, ◌≤◌, ◌<◌, List, [], ◌∷◌, ◌++◌, length, Option, Some, None, Ok, refl, sym, ap, subst, ◌∙◌, arith, slice_get}
 use Rattle.std.specs.Option.{option_and_then}
 use Rattle.std.specs.FinMap as map
 use Rattle.std.specs.FinMap.{get-entries, entries_sorted, entries-from_sorted}
@@ -11,9 +11,10 @@ use Rattle.page_codec.specs.Values.{PageValue, ReferenceValue}
 use Rattle.draft_model.specs.Places.{Store, Holds, block_at, slot_block}
 use Rattle.store_model.specs.Walk.{Blocks}
 use Rattle.store_model.specs.Laws.{pages_of}
-use Rattle.tree_listing.specs.Listing.{Entry, and_then, page_named, pages_named, pages_from, pages_of_version, root_in, slots_pages}
-use Rattle.tree_listing.specs.Results.{AppendsTree, IsRising, lines_under}
-use Rattle.tree_listing.proofs.Ordered.{sorted_first, find_root}
+use Rattle.tree_listing.specs.FirstFault.{and_then, root_in}
+use Rattle.tree_listing.specs.Results.{AppendsTree}
+use Rattle.tree_listing.specs.Walk.{Entry, IsRising, lines_under, pages_from, pages_named, pages_of_version, slots_pages}
+use Rattle.tree_listing.proofs.Ordered.{sorted_first}
 use Rattle.tree_listing.proofs.Slots.{Part, IsOrdered, Walked, SlotWalked, SlotsWalked, slots_walked}
 use Rattle.tree_listing.proofs.Decoding.{level_high, named_page, found_root}
 
@@ -23,10 +24,10 @@ pub record HoldsPart (store : Store) (count level root : ℕ) (part : Part) : Ty
       → (page : PageValue) × (store b ≡ Some page) × (part p ≡ Some page.bytes) × (page.level ≡ level + length p) × (b < count)
   pub gone : (p : List ℕ) → block_at store root p ≡ None → part p ≡ None
 
-some_is : {X : Type 0} {x y : X} → Some x ≡ Some y → x ≡ y
+pub some_is : {X : Type 0} {x y : X} → Some x ≡ Some y → x ≡ y
 some_is h = cc
 
-down : (store : Store) (b s : ℕ) (p : List ℕ) (page : PageValue) → store b ≡ Some page
+pub down : (store : Store) (b s : ℕ) (p : List ℕ) (page : PageValue) → store b ≡ Some page
     → block_at store b (s ∷ p) ≡ option_and_then (λ c. block_at store c p) (slot_block page s)
 down store b s p page e = ap (λ o. option_and_then (λ c. block_at store c p) (option_and_then (λ page. slot_block page s) o)) e
 

@@ -1,17 +1,16 @@
 -- Reads leave what a walk goes over, and a walk over slots is gathered slot by slot.
-use Rattle.std.proofs.Common.{◌≡◌, inl, inr, ℕ, zero, suc, ◌+◌, ◌^◌, ◌≤◌, ◌<◌, List, [], ◌∷◌, ◌++◌, length, drop, map, ◌-◌, Option, Some, None, Result, Ok, Err, OnOk, refl, sym, ap, subst, ◌∙◌, arith, get_or, add-one, append_assoc, append-nil}
-use Rattle.std.specs.List.{flat_map, slice_get}
+use Rattle.std.proofs.Common.{◌≡◌, inl, inr, ℕ, zero, suc, ◌+◌, ◌≤◌, ◌<◌, List, [], ◌∷◌, ◌++◌, length, drop, map, ◌-◌, Option, Some, Result, Ok, Err, OnOk, refl, sym, ap, subst, ◌∙◌, arith, get_or, add-one, append_assoc, append-nil}
+use Rattle.std.specs.List.{slice_get}
 use Rattle.std.specs.Option.{option_and_then}
 use Rattle.std.proofs.Math.Seq.{drop-cons}
 use Rattle.std.proofs.Math.ListN.{drop_of_length-le}
-use Rattle.std.proofs.lemmas.Option.{get_or_from_slice_get}
 use Rattle.drives.specs.declared.device.Half.{Half}
 use Rattle.page_codec.specs.Values.{ReferenceValue, PageValue}
 use Rattle.draft_model.specs.Places.{Store, block_at}
 use Rattle.store_model.specs.Walk.{Blocks, Refused}
 use Rattle.store_model.specs.Laws.{pages_of, page_of_block}
 use Rattle.store_check.specs.Since.{OnlyRead, IsUnreadSince}
-use Rattle.store_check.proofs.ReadOnly.{none_read, read_on, unread_before, failed_before}
+use Rattle.store_check.proofs.ReadOnly.{unread_before, failed_before}
 use Rattle.pair_store.specs.Faults.{IsStopped, IsUnread}
 use Rattle.tree_listing.specs.declared.refused.ListingRefused.{ListingRefused}
 use Rattle.tree_listing.specs.declared.refused.ListingRefused.TheVariants.{ReadFault, BadStore, Memory}
@@ -20,8 +19,10 @@ use Rattle.tree_listing.proofs.Held.{tree_of}
 use Rattle.tree_model.specs.Trees.{Tree}
 use Rattle.std.specs.FinMap as finmap
 use Rattle.page_codec.specs.declared.why.Why.{Why}
-use Rattle.tree_listing.specs.Listing.{Entry, and_then, under, blocks_of, slot_pages, slots_pages, pages_from, pages_named, pages_of_version, root_in, EachBelow, EachBelowSlots, IsOpen}
-use Rattle.tree_listing.specs.Results.{AppendsTree, Gives, IsNoCause, Stops, Lists, Grows, IsRising, AreBelow, AreUnder, lines_under}
+use Rattle.tree_listing.specs.Listing.{EachBelow, IsOpen, blocks_of}
+use Rattle.tree_listing.specs.FirstFault.{and_then, root_in}
+use Rattle.tree_listing.specs.Results.{AppendsTree, Gives, Grows, IsNoCause, Stops}
+use Rattle.tree_listing.specs.Walk.{AreBelow, AreUnder, Entry, IsRising, Lists, lines_under, pages_from, pages_named, pages_of_version, slot_pages, slots_pages, under}
 use Rattle.tree_listing.proofs.Ordered.{rising_first, below_longer}
 
 -- ---- reads

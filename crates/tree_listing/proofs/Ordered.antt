@@ -1,5 +1,5 @@
 -- Entries in the order of their paths: those under a slot stand before those under a later one, and each is found under its own slot alone.
-use Rattle.std.proofs.Common.{◌≡◌, ◌≢◌, ℕ, suc, ◌≤◌, ◌<◌, Bool, true, false, cond, ◌&&◌, List, [], ◌∷◌, ◌++◌, map, Option, Some, None, refl, sym, ap, subst, ◌∙◌, arith}
+use Rattle.std.proofs.Common.{◌≡◌, ℕ, suc, ◌≤◌, ◌<◌, Bool, true, false, cond, ◌&&◌, List, [], ◌∷◌, ◌++◌, map, Some, None, refl, sym, ap, subst, ◌∙◌, arith}
 use Rattle.std.specs.Prelude.{T}
 use Rattle.std.specs.Option.{option_or}
 use Rattle.std.specs.declared.cmp.Ordering.{Ordering}
@@ -9,8 +9,7 @@ use Rattle.std.specs.Cmp.{tied_itself, nat_cmp_total}
 use Rattle.std.specs.FinMap.{nat_cmp-IsAntisymmetric}
 use Rattle.std.specs.FinMap.Entries.{find, is_sorted, below_all}
 use Rattle.afs_base.specs.Path.{path_cmp}
-use Rattle.tree_listing.specs.Listing.{Entry, under}
-use Rattle.tree_listing.specs.Results.{IsRising, StartsBefore, AreBelow, AreUnder}
+use Rattle.tree_listing.specs.Walk.{AreBelow, AreUnder, Entry, IsRising, StartsBefore, under}
 use Rattle.std.specs.List.{AllByRecursion}
 
 both : (a b : Bool) → T a → T b → T (a && b)
@@ -56,7 +55,7 @@ AllFrom s (e ∷ es) = StartsFrom s e.0 × AllFrom s es
 nat_less : (s t : ℕ) → s < t → nat_cmp s t ≡ Less
 nat_less s t h = Prim.grind (arith)
 
-cmp_less : (s : ℕ) (p q : List ℕ) → StartsFrom (suc s) q → path_cmp (s ∷ p) q ≡ Less
+pub cmp_less : (s : ℕ) (p q : List ℕ) → StartsFrom (suc s) q → path_cmp (s ∷ p) q ≡ Less
 cmp_less s p [] h = absurd h
 cmp_less s p (t ∷ q) h = ap (λ r. ordering_then r (path_cmp p q)) (nat_less s t (Prim.omega (arith, h)))
 

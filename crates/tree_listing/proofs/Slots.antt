@@ -1,12 +1,13 @@
 -- The pages below the slots of a page are in order, and each is found at its path.
-use Rattle.std.proofs.Common.{◌≡◌, ◌⊎◌, inl, inr, ℕ, zero, suc, ◌+◌, ◌-◌, ◌≤◌, ◌<◌, List, [], ◌∷◌, ◌++◌, map, Option, Some, None, Result, Ok, refl, sym, ap, subst, ◌∙◌, arith, slice_get}
+use Rattle.std.proofs.Common.{◌≡◌, ◌⊎◌, inl, inr, ℕ, suc, ◌+◌, ◌-◌, ◌≤◌, List, [], ◌∷◌, ◌++◌, map, Option, Some, None, Result, Ok, refl, sym, ap, subst, ◌∙◌, arith, slice_get}
 use Rattle.std.specs.Prelude.{T}
 use Rattle.std.specs.Option.{option_and_then, option_or}
 use Rattle.std.specs.FinMap.Entries.{find, is_sorted}
 use Rattle.afs_base.specs.Path.{path_cmp}
 use Rattle.page_codec.specs.Values.{ReferenceValue}
 use Rattle.store_model.specs.Walk.{Refused}
-use Rattle.tree_listing.specs.Listing.{Entry, and_then, under, slot_pages, slots_pages}
+use Rattle.tree_listing.specs.FirstFault.{and_then}
+use Rattle.tree_listing.specs.Walk.{Entry, slot_pages, slots_pages, under}
 use Rattle.tree_listing.proofs.Ordered.{AllFrom, find_under, find_earlier, find_other, find_append, sorted_join, from_join}
 
 -- what a tree, or a part of one, has at each path

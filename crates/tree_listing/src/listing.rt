@@ -9,8 +9,10 @@ ghost use Rattle.pair_store.specs.Faults.{IsStopped};
 ghost use Rattle.store_check.specs.Since.{IsUnreadSince, OnlyRead};
 ghost use Rattle.tree_listing.specs.declared.refused.ListingRefused.{ListingRefused};
 ghost use Rattle.tree_listing.specs.TreeText.{tree_text};
-ghost use Rattle.tree_listing.specs.Listing.{AreReadable, EachBelow, EachBelowSlots, IsOpen, blocks_of, pages_from, pages_named, pages_of_version, slot_pages, slots_pages};
-ghost use Rattle.tree_listing.specs.Results.{AppendsTree, AreBelow, AreUnder, Gives, Grows, IsRising, Lists};
+ghost use Rattle.tree_listing.specs.Listing.{AreReadable, EachBelow, EachBelowSlots, IsOpen, blocks_of};
+ghost use Rattle.tree_listing.specs.FirstFault.{IsFirstFault};
+ghost use Rattle.tree_listing.specs.Results.{AppendsTree, Gives, Grows};
+ghost use Rattle.tree_listing.specs.Walk.{AreBelow, AreUnder, IsRising, Lists, pages_from, pages_named, slot_pages, slots_pages};
 
 use crate::line::append_line;
 use crate::reading::{page_named, root_in};
@@ -140,10 +142,10 @@ pub fn list_tree<B: Blocks>(
     ensures text { B.tells → (tree : Tree) → Holds (pages_of (B.content store.old)) root tree
         → AreReadable (B.settled store.old) (B.size store.old) (pages_of (B.content store.old)) root
         → Gives (out.new.items ≡ out.old.items ++ tree_text tree) result }
-    // Where they hold none, this is the first cause.
+    // Where they hold none, the block and the cause are those of the first fault.
     ensures bad { B.tells → EachBelow (B.settled store.old) (pages_of (B.content store.old)) root
         → (block : ℕ) (why : Why) → IsErrOf result (ListingRefused.BadStore block why)
-        → pages_of_version (blocks_of B.content B.size store.old) root ≡ Err (record { block = block; why = why }) }
+        → IsFirstFault (blocks_of B.content B.size store.old) root (record { block = block; why = why }) }
     // And a half that failed did so in the last call.
     ensures stopped { B.tells → (tree : Tree) → Holds (pages_of (B.content store.old)) root tree
         → AreReadable (B.settled store.old) (B.size store.old) (pages_of (B.content store.old)) root

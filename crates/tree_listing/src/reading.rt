@@ -6,7 +6,8 @@ ghost use Rattle.pair_store.specs.Answers.{IsReadFault};
 ghost use Rattle.pair_store.specs.Faults.{IsStopped};
 ghost use Rattle.store_check.specs.Since.{IsUnreadSince, OnlyRead};
 ghost use Rattle.tree_listing.specs.declared.refused.ListingRefused.{ListingRefused};
-ghost use Rattle.tree_listing.specs.Listing.{IsOpen, block_named, blocks_of, page_named, root_in};
+ghost use Rattle.tree_listing.specs.Listing.{IsOpen, blocks_of};
+ghost use Rattle.tree_listing.specs.FirstFault.{block_named, page_named, root_in};
 ghost use Rattle.tree_listing.specs.Results.{Finds, refused_read};
 
 use crate::refused::ListingRefused;
@@ -29,7 +30,7 @@ fn refused_read(n: BlockNo, fault: PairFault) -> ListingRefused
 }
 
 /// The content of block `n`, which the page in `namer` names.
-#[tactic(auto, unfolding(crate::specs::Listing::block_named))]
+#[tactic(auto, unfolding(crate::specs::FirstFault::block_named))]
 fn block_named<B: Blocks>(
     store: &mut B,
     namer: BlockNo,
@@ -56,7 +57,7 @@ fn block_named<B: Blocks>(
 }
 
 /// The page of this level, 1 to 7, in block `n`, which the page in `namer` names.
-#[tactic(auto, unfolding(crate::specs::Listing::page_named))]
+#[tactic(auto, unfolding(crate::specs::FirstFault::page_named))]
 pub fn page_named<B: Blocks>(
     store: &mut B,
     namer: BlockNo,
@@ -90,7 +91,7 @@ pub fn page_named<B: Blocks>(
 }
 
 /// The page `/` of the version in block `n`.
-#[tactic(auto, unfolding(crate::specs::Listing::root_in))]
+#[tactic(auto, unfolding(crate::specs::FirstFault::root_in))]
 pub fn root_in<B: Blocks>(store: &mut B, n: BlockNo) -> Result<Page, ListingRefused>
     ensures only { OnlyRead B.tells B.size B.moment B.content B.may_leave B.settled B.settled_always B.faults B.last_fault store.old store.new }
     ensures found { B.tells → B.settled store.old n → Finds result (root_in (blocks_of B.content B.size store.old) n) }

@@ -1,14 +1,15 @@
 use Rattle.std.proofs.Common.{◌≡◌, ◌-◌, ◌<◌, ◌≤◌, ◌++◌, ◌∷◌, [], ℕ, List, Option, Result, Ok, Err, Some, refl, sym, ap, subst, ◌∙◌, length, arith, get_or, map}
 use Rattle.std.proofs.lemmas.Result.{err_from_is_err_and}
 use Rattle.page_codec.specs.Values.{PageValue, ReferenceValue}
-use Rattle.draft_model.specs.Places.{Store}
-use Rattle.store_model.specs.Walk.{Blocks, Refused}
+use Rattle.store_model.specs.Walk.{Blocks}
 use Rattle.store_model.specs.Laws.{pages_of}
 use Rattle.store_check.proofs.ReadOnly.{none_read, read_on}
 use Rattle.tree_listing.specs.declared.refused.ListingRefused.{ListingRefused}
 use Rattle.tree_listing.specs.TreeText.{page_line}
-use Rattle.tree_listing.specs.Listing.{Entry, EachBelow, EachBelowSlots, IsOpen, and_then, blocks_of, page_named, pages_from, pages_named, slot_pages, slots_pages, under}
-use Rattle.tree_listing.specs.Results.{AreBelow, AreUnder, Grows, IsRising, Lists, Stops}
+use Rattle.tree_listing.specs.Listing.{EachBelow, EachBelowSlots, IsOpen, blocks_of}
+use Rattle.tree_listing.specs.FirstFault.{and_then, page_named}
+use Rattle.tree_listing.specs.Results.{Stops}
+use Rattle.tree_listing.specs.Walk.{AreBelow, AreUnder, Entry, IsRising, Lists, pages_from, pages_named, slot_pages, slots_pages, under}
 use Rattle.tree_listing.proofs.Decoding.{each_slot, named_reads}
 use Rattle.tree_listing.proofs.Moving.{each_below_on, each_open_on, grows_none, grows_on, leaf_is, lists_as, lists_exit, lists_first, lists_leaf, lists_slot, page_is, same_blocks, slot_names, slots_begin, slots_end, slots_on, slots_refused, stopped_since, stops_on, unread_since}
 use Rattle.tree_listing.proofs.listing.+pages.Goals as goal

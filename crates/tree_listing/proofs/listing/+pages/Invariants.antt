@@ -1,9 +1,9 @@
-use Rattle.std.proofs.Common.{◌*◌, ◌+◌, ◌≡◌, ℕ, List, Option}
-use Rattle.draft_model.specs.Places.{Store}
+use Rattle.std.proofs.Common.{◌*◌, ◌+◌}
 use Rattle.store_model.specs.Laws.{pages_of}
 use Rattle.store_check.specs.Since.{OnlyRead}
-use Rattle.tree_listing.specs.Listing.{EachBelowSlots, blocks_of, pages_named}
+use Rattle.tree_listing.specs.Listing.{EachBelowSlots, blocks_of}
 use Rattle.tree_listing.specs.Results.{Grows}
+use Rattle.tree_listing.specs.Walk.{pages_named}
 use Rattle.tree_listing.proofs.Moving.{SlotsListed}
 use Rattle.tree_listing.proofs.listing.+pages.Given as goal
 

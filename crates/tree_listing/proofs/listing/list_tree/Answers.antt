@@ -1,14 +1,16 @@
-use Rattle.std.proofs.Common.{◌≡◌, ℕ, List, [], ◌∷◌, ◌++◌, Option, Result, Ok, Err, Some, refl, sym, ap, subst, ◌∙◌}
+use Rattle.std.proofs.Common.{◌≡◌, ℕ, List, [], Result, Ok, Err, refl, sym, ap, subst, ◌∙◌}
 use Rattle.std.proofs.lemmas.Result.{err_from_is_err_and}
 use Rattle.page_codec.specs.Values.{PageValue}
 use Rattle.store_model.specs.Walk.{Blocks, Refused}
 use Rattle.store_model.specs.Laws.{pages_of}
 use Rattle.store_check.proofs.ReadOnly.{read_on}
 use Rattle.tree_listing.specs.declared.refused.ListingRefused.{ListingRefused}
-use Rattle.tree_listing.specs.Listing.{EachBelow, EachBelowSlots, IsOpen, and_then, blocks_of, pages_from, pages_of_version, root_in}
-use Rattle.tree_listing.specs.Results.{IsRising, Lists, Stops}
+use Rattle.tree_listing.specs.Listing.{EachBelow, EachBelowSlots, IsOpen, blocks_of}
+use Rattle.tree_listing.specs.FirstFault.{root_in}
+use Rattle.tree_listing.specs.Walk.{IsRising, Lists, pages_from}
 use Rattle.tree_listing.proofs.Decoding.{each_slot, has_content, root_reads}
 use Rattle.tree_listing.proofs.Held.{walked_root}
+use Rattle.tree_listing.proofs.Faults.{first_fault}
 use Rattle.tree_listing.proofs.Moving.{cause_is, each_below_on, each_open_on, gives_exit, lists_bad, lists_lines, lists_text, no_cause, same_blocks, stopped_since, unread_since, version_is, version_stops}
 use Rattle.tree_listing.proofs.listing.list_tree.Goals as goal
 
@@ -31,8 +33,9 @@ returns-in_err-page-clause-bad g c = λ told each block why is.
     let blocks = blocks_of b.content b.size c.args.store.now in
     let p = err_from_is_err_and c.from_residual.result c.from_residual.ensures.1 in
     let stop = c.in_err-page.field-0.0 in
-    version_stops blocks c.args.root (record { block = block; why = why })
-    (cause_is stop c.from_residual.result (root_in blocks c.args.root) block why (p.1 ∙ ap Err p.2) is (c.in_err-page.ensures.found told (each [] c.args.root refl)))
+    first_fault blocks c.args.root (record { block = block; why = why })
+    (version_stops blocks c.args.root (record { block = block; why = why })
+    (cause_is stop c.from_residual.result (root_in blocks c.args.root) block why (p.1 ∙ ap Err p.2) is (c.in_err-page.ensures.found told (each [] c.args.root refl))))
 
 pub returns-in_err-page-clause-stopped : goal.returns-in_err-page-clause-stopped
 returns-in_err-page-clause-stopped g c = λ told tree holds readable h is.
@@ -88,14 +91,15 @@ returns-clause-bad g c = λ told each block why is.
     let first = c.in_ok-page.ensures in
     let found : root_in (blocks_of b.content b.size s) root ≡ Ok page = first.found told (each [] root refl) in
     let same = same_blocks b.tells b.size b.moment b.content b.may_leave b.settled b.settled_always b.faults b.last_fault s s1 first.only told in
-    version_is (blocks_of b.content b.size s) root page found
+    first_fault (blocks_of b.content b.size s) root (record { block = block; why = why })
+    (version_is (blocks_of b.content b.size s) root page found
     ∙ ap (λ (bs : Blocks). pages_from bs 7 root page) (sym same)
     ∙ lists_bad _ _ c.args.out.now.items c.list_page.new.out.items c.list_page.result (pages_from (blocks_of b.content b.size s1) 7 root page) block why c.list_page.ensures.lists (
       told,
       λ slot m named. each_below_on b.tells b.size b.moment b.content b.may_leave b.settled b.settled_always b.faults b.last_fault s s1 first.only told m
           (each_slot (b.settled s) (pages_of (b.content s)) root page (root_reads (blocks_of b.content b.size s) root page found) each slot m named),
     )
-    is
+    is)
 
 pub returns-clause-stopped : goal.returns-clause-stopped
 returns-clause-stopped g c = λ told tree holds readable h is.
