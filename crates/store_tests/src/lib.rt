@@ -9,6 +9,8 @@ mod closing;
 #[cfg(test)]
 mod halves;
 #[cfg(test)]
+mod listings;
+#[cfg(test)]
 mod maps;
 #[cfg(test)]
 mod new_stores;

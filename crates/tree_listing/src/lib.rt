@@ -10,6 +10,3 @@ mod refused;
 pub use laws::{first_fault_law, held_law};
 pub use listing::list_tree;
 pub use refused::ListingRefused;
-
-#[cfg(test)]
-mod tests;

@@ -1,13 +1,13 @@
 //! Versions made by hand: pages with data and without, seven levels, and each cause once.
 ghost use Rattle.std.specs.Prelude.{◌≡◌, ◌*◌, length, IfOk};
 
-use crate::{ListingRefused, list_tree};
 use afs_base::BlockNo;
 use drives::MemDrives;
 use page_codec::{Why, fresh_image};
 use pair_store::Pair;
 use std::alloc::{AllocError, Global};
 use std::test::Fail;
+use tree_listing::{ListingRefused, list_tree};
 
 /// Bytes to be put at an offset.
 type Patch = (usize, &'static [u8]);
