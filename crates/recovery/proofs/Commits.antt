@@ -13,7 +13,7 @@ use Rattle.store_model.specs.Found.{LaidStore, found}
 use Rattle.store_model.proofs.Steps.{Content}
 use Rattle.recovery.specs.Rolling.{RollingLinks, RollingTops}
 use Rattle.recovery.proofs.Rolls.{PageAt}
-use Rattle.recovery.proofs.Writes.{SetOrFailed, more_links, more_tops, link_body, link_nil, link_low, link_written, link_found, link_images, top_body, top_low, top_written, top_found, top_images}
+use Rattle.recovery.proofs.Writes.{SetOrFailed, more_links, more_tops}
 
 -- all blocks stay settled where the one that is written is, and the others do
 pub settles_all : (s t : ℕ → Type 0) (n : ℕ) → t n → ((k : ℕ) → k ≢ n → s k → t k) → (k : ℕ) → s k → t k

@@ -222,9 +222,6 @@ module _ (c d : Content) (s t : ℕ → Type 0) (most : ℕ) (before : LaidStore
   unfolding set_store
   set_lies = linking_keeps c d most r.stands.store r.stands.order r.stands.laid l.link rw
 
-  pub set_found : found d most ≡ found c most
-  set_found = set_lies.1
-
   set_like : IsLike before set_store
   unfolding set_store
   set_like = record {

@@ -21,7 +21,7 @@ use Rattle.recovery.specs.declared.opened.OpenedOver.{OpenedOver}
 use Rattle.recovery.specs.declared.opened.UnopenedOver.{UnopenedOver}
 use Rattle.recovery.specs.declared.refused.OpenRefused.{OpenRefused}
 use Rattle.recovery.specs.Mended.{OnlyMended}
-use Rattle.recovery.specs.Opening.{IsBad, IsFailed, IsNoStore, IsOpened, IsUntorn, IsUntornOver, SameFound, drives_of, pair_result, store_of}
+use Rattle.recovery.specs.Opening.{IsBad, IsFailed, IsNoStore, IsOpened, SameFound, drives_of, pair_result, store_of}
 use Rattle.recovery.proofs.Rolls.{failed_since, read_images, stopped_failed, unread_failed}
 
 -- where block 0 has no content there is no store
@@ -36,10 +36,6 @@ no_content c most is = (record { block = 0; why = Closed }, ap state_of (closed_
 pub drives_same : {V : Type 0} (r : Result (OpenedOver (Pair V)) (UnopenedOver (Pair V))) (since : ℕ) → drives_of (pair_result r since) ≡ (store_of r).drives
 drives_same (Ok o) since = refl
 drives_same (Err e) since = refl
-
-pub untorn_pair : {V : Type 0} (r : Result (OpenedOver (Pair V)) (UnopenedOver (Pair V))) (since : ℕ) → IsUntorn (pair_result r since) → IsUntornOver r
-untorn_pair (Ok o) since untorn = tt
-untorn_pair (Err e) since untorn = untorn
 
 pub bad_pair : {V : Type 0} (x y : Result State Refused) (r : Result (OpenedOver (Pair V)) (UnopenedOver (Pair V))) (since : ℕ) → x ≡ y → IfErr r (λ e. IsBad x e.why) → IfErr (pair_result r since) (λ e. IsBad y e.why)
 bad_pair x y (Ok o) since same bad = tt

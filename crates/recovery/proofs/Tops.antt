@@ -206,9 +206,6 @@ module _ (c d : Content) (s t : ℕ → Type 0) (most : ℕ) (before : LaidStore
   unfolding clear_store place
   clear_lies = clearing_keeps c d most r.stands.store r.stands.order r.stands.laid a.version a.top a.links rw
 
-  pub clear_found : found d most ≡ found c most
-  clear_found = clear_lies.1
-
   clear_like : IsLike before clear_store
   unfolding clear_store place
   clear_like = record {
