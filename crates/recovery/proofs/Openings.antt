@@ -2,7 +2,6 @@
 use Rattle.std.proofs.Common.{◌≡◌, ◌≢◌, ◌⊎◌, inl, inr, ℕ, zero, suc, ◌+◌, ◌-◌, ◌^◌, ◌<◌, ◌≤◌, ◌==◌, ◌||◌, ◌↔◌, min, true, nat_eq, List, [], ◌∷◌, length, Option, Some, None, Result, Ok, Err, refl, sym, ap, subst, ◌∙◌, arith, slice_get, map, leb-true}
 use Rattle.std.specs.Prelude.{OnOk, IfOk, IfErr}
 use Rattle.std.specs.List.{list_any}
-use Rattle.std.proofs.Math.Path.{fun_ext}
 use Rattle.block_map.specs.declared.states.BlockState.{BlockState}
 use Rattle.drives.specs.declared.device.Half.{Half}
 use Rattle.page_codec.specs.Values.{RootValue, TableValue}
@@ -12,7 +11,7 @@ use Rattle.version_chain.specs.declared.head.Head.{Head}
 use Rattle.tree_model.specs.States.{State}
 use Rattle.store_model.specs.Laid.{LaidFile}
 use Rattle.store_model.specs.Walk.{Refused}
-use Rattle.store_model.specs.Found.{LaidStore, laid, found, state_of}
+use Rattle.store_model.specs.Found.{LaidStore, laid, found}
 use Rattle.store_model.proofs.Steps.{Content}
 use Rattle.store_model.proofs.Stores.{Parts, parts_of}
 use Rattle.store_model.proofs.Edits.{within}
