@@ -1,11 +1,10 @@
 -- What an opening comes to, from what rolling forward does.
-use Rattle.std.proofs.Common.{◌≡◌, ◌≢◌, ◌⊎◌, inl, inr, ℕ, zero, suc, ◌+◌, ◌-◌, ◌^◌, ◌<◌, ◌≤◌, ◌==◌, ◌||◌, ◌↔◌, min, true, nat_eq, List, [], ◌∷◌, length, Option, Some, None, Result, Ok, Err, refl, sym, ap, subst, ◌∙◌, arith, slice_get, map, leb-true}
+use Rattle.std.proofs.Common.{◌≡◌, ◌≢◌, ◌⊎◌, inl, inr, ℕ, ◌+◌, ◌-◌, ◌^◌, ◌<◌, ◌≤◌, ◌==◌, ◌||◌, min, nat_eq, List, [], length, Option, Some, Result, Ok, Err, refl, sym, ap, subst, ◌∙◌, arith, map, leb-true}
 use Rattle.std.specs.Prelude.{OnOk, IfOk, IfErr}
 use Rattle.std.specs.List.{list_any}
 use Rattle.block_map.specs.declared.states.BlockState.{BlockState}
 use Rattle.drives.specs.declared.device.Half.{Half}
 use Rattle.page_codec.specs.Values.{RootValue, TableValue}
-use Rattle.page_codec.specs.TableReading.{root_of}
 use Rattle.pair_store.specs.ContentLaws.{decide}
 use Rattle.version_chain.specs.declared.head.Head.{Head}
 use Rattle.tree_model.specs.States.{State}
@@ -15,17 +14,17 @@ use Rattle.store_model.specs.Found.{LaidStore, laid, found}
 use Rattle.store_model.proofs.Steps.{Content}
 use Rattle.store_model.proofs.Stores.{Parts, parts_of}
 use Rattle.store_model.proofs.Edits.{within}
-use Rattle.store_check.specs.Checked.{IsMended, LikeTable}
-use Rattle.store_check.specs.Files.{chain_of, chains_of}
-use Rattle.store_check.specs.Marks.{Marks, is_kept, mark_of}
+use Rattle.store_check.specs.Checked.{IsMended}
+use Rattle.store_check.specs.Files.{chain_of}
+use Rattle.store_check.specs.Marks.{Marks, mark_of}
 use Rattle.recovery.specs.declared.known.Known.{Known}
 use Rattle.recovery.specs.declared.opened.OpenedOver.{OpenedOver}
 use Rattle.recovery.specs.declared.opened.UnopenedOver.{UnopenedOver}
 use Rattle.recovery.specs.declared.refused.OpenRefused.{OpenRefused}
 use Rattle.recovery.specs.declared.refused.OpenRefused.TheVariants.{ReadFault, WriteFault, BadStore, Memory}
-use Rattle.recovery.specs.Opening.{IsBad, IsFailed, IsNoStore, IsOpened, IsRolled, heads_of, store_of}
+use Rattle.recovery.specs.Opening.{IsBad, IsFailed, IsOpened, store_of}
 use Rattle.recovery.specs.Known.{IsKnown, why_of}
-use Rattle.recovery.specs.Rolling.{IsHalfFailed, Never, Rolls, RollingLinks, RollingTops, Stands}
+use Rattle.recovery.specs.Rolling.{IsHalfFailed, RollingLinks, RollingTops}
 use Rattle.recovery.proofs.Heads.{map_long}
 use Rattle.recovery.proofs.Rolls.{failed_since}
 

@@ -1,6 +1,5 @@
 -- Calls that go on from one state of a store to the next, in a row; and one call on a block.
 use Rattle.std.proofs.Common.{◌≡◌, inl, inr, ℕ, min, ◌+◌, ◌^◌, ◌-◌, ◌<◌, ◌≤◌, ◌↔◌, List, Option, Some, None, Result, Ok, Err, refl, sym, ap, subst, ◌∙◌, arith}
-use Rattle.std.specs.Prelude.{OnOk, IfErr, IsErrOf}
 use Rattle.std.proofs.Math.Path.{fun_ext}
 use Rattle.drives.specs.declared.device.Half.{Half}
 use Rattle.drives.specs.Changes.{Changes}
@@ -18,7 +17,7 @@ use Rattle.store_check.proofs.ReadOnly.{failed_before}
 use Rattle.store_model.specs.Found.{found}
 use Rattle.store_model.proofs.Edits.{none_some}
 use Rattle.recovery.specs.declared.refused.OpenRefused.{OpenRefused}
-use Rattle.recovery.specs.declared.refused.OpenRefused.TheVariants.{ReadFault, WriteFault, BadStore, Memory}
+use Rattle.recovery.specs.declared.refused.OpenRefused.TheVariants.{ReadFault, WriteFault, BadStore}
 use Rattle.recovery.specs.Opening.{IsFailed, SameFound, refused_call}
 use Rattle.recovery.specs.Rolling.{IsHalfFailed, Never, Rolls}
 

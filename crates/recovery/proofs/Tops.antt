@@ -1,5 +1,5 @@
 -- Members that a last version names, and what becomes of a store once they are cleared.
-use Rattle.std.proofs.Common.{◌≡◌, ◌≢◌, ℕ, zero, suc, ◌+◌, ◌-◌, ◌<◌, ◌≤◌, ◌==◌, Bool, true, false, List, [], ◌∷◌, length, ◌⊎◌, inl, inr, Option, Some, None, Ok, option_map, refl, sym, ap, subst, ◌∙◌, arith, slice_get, map, true≢false}
+use Rattle.std.proofs.Common.{◌≡◌, ◌≢◌, ℕ, zero, suc, ◌+◌, ◌-◌, ◌<◌, ◌==◌, Bool, true, false, List, [], length, ◌⊎◌, inl, inr, Option, Some, None, Ok, option_map, refl, sym, ap, subst, ◌∙◌, arith, slice_get, map}
 use Rattle.page_codec.specs.Values.{VersionValue}
 use Rattle.page_codec.specs.Causes.{version_of}
 use Rattle.store_model.specs.Laid.{LaidVersion, LaidFile, last_laid}
@@ -22,7 +22,6 @@ use Rattle.store_check.specs.declared.chain.Chain.{Chain}
 use Rattle.store_check.specs.declared.version.FoundVersion.{FoundVersion}
 use Rattle.store_check.specs.Versions.{shown_of}
 use Rattle.store_check.specs.Files.{chain_of, chains_of}
-use Rattle.recovery.specs.Opening.{heads_of}
 use Rattle.recovery.specs.Rolling.{IsLike, Stands, RollingLinks, RollingTops, lasts_of}
 use Rattle.recovery.proofs.Heads.{MapAt, map_at, map_get, map_long, KeptOf, kept_of, kept_none, KeepsHead, heads_kept}
 

@@ -1,12 +1,12 @@
 -- The block of a version page written with its link, or without its members: what is found stays, also where a crash or a failed write leaves the old bytes.
-use Rattle.std.proofs.Common.{◌≡◌, ◌≢◌, ◌⊎◌, inl, inr, ℕ, ◌+◌, ◌^◌, ◌-◌, ◌<◌, ◌≤◌, List, [], Option, Some, None, Result, Ok, Err, length, refl, sym, ap, subst, ◌∙◌, arith, slice_get}
+use Rattle.std.proofs.Common.{◌≡◌, inl, inr, ℕ, ◌+◌, ◌^◌, ◌<◌, ◌≤◌, List, [], Some, None, Result, Ok, Err, length, sym, ap, subst, ◌∙◌, slice_get}
 use Rattle.std.proofs.Math.Path.{fun_ext}
 use Rattle.page_codec.specs.declared.why.Why.{Why}
 use Rattle.page_codec.specs.Values.{VersionValue}
 use Rattle.page_codec.specs.Causes.{version_of}
 use Rattle.page_codec.proofs.FrameLaws.{IsBlock}
 use Rattle.pair_store.specs.Blocks.{OldOrNew, SameOthers}
-use Rattle.pair_store.specs.Answers.{HasCommit, HasVersion, HasNoVersion, IsTested, IsCleared}
+use Rattle.pair_store.specs.Answers.{IsTested, IsCleared}
 use Rattle.pair_store.specs.ContentLaws.{decide}
 use Rattle.pair_store.specs.Pages.{with_commit as commit_bytes, without_members as cleared_bytes}
 use Rattle.pair_store.specs.declared.fault.PairFault.{PairFault}
@@ -14,7 +14,7 @@ use Rattle.pair_store.specs.declared.fault.PairFault.TheVariants.{ReadFault as U
 use Rattle.pair_store.specs.declared.outcome.Tas.{Tas}
 use Rattle.pair_store.specs.declared.outcome.Tas.TheVariants.{Set, Taken}
 use Rattle.store_model.specs.Found.{LaidStore, laid, found}
-use Rattle.store_model.specs.Changes.{Rewrites, with_commit, without_members, Outstanding}
+use Rattle.store_model.specs.Changes.{Rewrites, with_commit, without_members}
 use Rattle.store_model.proofs.Steps.{Content, InRange}
 use Rattle.store_model.proofs.Edits.{some_is, none_some}
 use Rattle.store_model.proofs.PageBytes.{rewrites_commit, rewrites_members}

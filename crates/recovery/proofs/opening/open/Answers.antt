@@ -1,15 +1,13 @@
-use Rattle.std.proofs.Common.{◌≡◌, ◌⊎◌, inl, inr, ℕ, ◌<◌, ◌≤◌, List, Option, Some, None, Result, Ok, Err, length, refl, sym, ap, subst, ◌∙◌, arith}
+use Rattle.std.proofs.Common.{◌≡◌, inl, inr, ℕ, ◌<◌, ◌≤◌, None, Result, Err, length, sym, ap, subst, ◌∙◌}
 use Rattle.std.specs.Prelude.{IfOk, IfErr}
-use Rattle.drives.specs.declared.device.Half.{Half}
 use Rattle.drives.specs.Changes.{Changes, IsAtRest, halves_seen}
 use Rattle.pair_store.specs.declared.fault.PairFault.{PairFault}
 use Rattle.pair_store.specs.Content.{ContentsLeft, IsSettled, IsSettledAlways, content_of}
 use Rattle.store_model.specs.Found.{found}
 use Rattle.recovery.specs.declared.opened.Opened.{Opened}
 use Rattle.recovery.specs.declared.opened.Unopened.{Unopened}
-use Rattle.recovery.specs.declared.refused.OpenRefused.{OpenRefused}
 use Rattle.recovery.specs.declared.refused.OpenRefused.TheVariants.{ReadFault, WriteFault}
-use Rattle.recovery.specs.Opening.{IsBad, IsFailed, IsNoStore, IsOpened, SameFound, drives_of, pair_result, refused_call, store_of}
+use Rattle.recovery.specs.Opening.{IsBad, IsFailed, IsNoStore, IsOpened, SameFound, drives_of, store_of}
 use Rattle.recovery.proofs.Rolls.{fault_read, stopped_failed, unread_failed}
 use Rattle.recovery.proofs.PairOpenings.{no_content, drives_same, bad_pair, failed_pair, mended_always, halves_change, pair_found, pair_same, mend_images, pair_images, opened_pair, settled_pair, always_pair}
 use Rattle.recovery.proofs.opening.open.Goals as goal

@@ -1,15 +1,13 @@
-use Rattle.std.proofs.Common.{◌≡◌, inl, inr, ℕ, ◌<◌, ◌≤◌, [], List, Option, Some, Result, Ok, Err, length, refl, sym, ap, subst, ◌∙◌, arith}
+use Rattle.std.proofs.Common.{◌≡◌, inl, inr, ℕ, ◌≤◌, [], List, Option, Result, Ok, sym, ap, subst, ◌∙◌, arith}
 use Rattle.std.proofs.Math.Path.{fun_ext}
 use Rattle.drives.proofs.Composing.{goes_on, leaves_now}
-use Rattle.pair_store.specs.Blocks.{SameContents}
-use Rattle.store_model.specs.Found.{LaidStore, laid, found}
+use Rattle.store_model.specs.Found.{laid, found}
 use Rattle.store_check.specs.Checked.{IsMended}
 use Rattle.recovery.specs.declared.known.Known.{Known}
 use Rattle.recovery.specs.declared.refused.OpenRefused.{OpenRefused}
-use Rattle.recovery.specs.declared.refused.OpenRefused.TheVariants.{ReadFault}
 use Rattle.recovery.specs.Opening.{IsNoStore, SameFound, store_of}
-use Rattle.recovery.specs.Known.{Knows, why_of}
-use Rattle.recovery.specs.Rolling.{Never, Rolls, RollingLinks, RollingTops}
+use Rattle.recovery.specs.Known.{Knows}
+use Rattle.recovery.specs.Rolling.{Never, RollingLinks}
 use Rattle.recovery.proofs.Openings.{links_begin, opened_ok, settled_ok, bad_err, unread_err, curried}
 use Rattle.recovery.proofs.Rolls.{read_images}
 use Rattle.recovery.proofs.Writes.{more_links}

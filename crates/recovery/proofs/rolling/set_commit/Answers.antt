@@ -1,16 +1,13 @@
-use Rattle.std.proofs.Common.{◌≡◌, ◌⊎◌, ◌≢◌, inl, inr, ℕ, ◌+◌, ◌<◌, ◌^◌, Some, None, List, Result, Ok, Err, refl, sym, ap, subst, ◌∙◌, arith}
+use Rattle.std.proofs.Common.{◌≡◌, ℕ, ◌+◌, List, Result, Ok, Err, sym, ap, subst, ◌∙◌}
 use Rattle.std.proofs.Math.Path.{fun_ext}
 use Rattle.std.proofs.lemmas.Result.{err_from_is_err_and}
 use Rattle.page_codec.proofs.FrameLaws.{IsBlock}
 use Rattle.pair_store.specs.declared.fault.PairFault.{PairFault}
-use Rattle.pair_store.specs.declared.fault.PairFault.TheVariants.{ReadFault, WriteFault, BothClosed, BadPage}
-use Rattle.store_check.specs.declared.chain.Chain.{Chain}
-use Rattle.store_check.specs.Files.{chains_of}
-use Rattle.store_model.specs.Found.{LaidStore, found}
+use Rattle.store_model.specs.Found.{found}
 use Rattle.recovery.specs.declared.refused.OpenRefused.{OpenRefused}
-use Rattle.recovery.specs.Opening.{SameFound, refused_call}
-use Rattle.recovery.specs.Rolling.{Never, Rolls, RollingLinks, IsHalfFailed}
-use Rattle.recovery.proofs.Rolls.{PageAt, never_ok, never_failed, rolls_failed, rolls_on, rolls_read, rolls_torn, rolls_wrote, read_images, read_fails, never_written}
+use Rattle.recovery.specs.Opening.{refused_call}
+use Rattle.recovery.specs.Rolling.{Never, Rolls, RollingLinks}
+use Rattle.recovery.proofs.Rolls.{never_ok, never_failed, rolls_failed, rolls_on, rolls_read, rolls_torn, rolls_wrote, read_images, read_fails, never_written}
 use Rattle.pair_store.specs.declared.outcome.Tas.{Tas}
 use Rattle.pair_store.specs.Answers.{IsSet}
 use Rattle.pair_store.specs.Pages.{with_commit}
