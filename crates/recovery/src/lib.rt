@@ -12,6 +12,3 @@ pub use mending::mend_all;
 pub use opened::{Opened, OpenedOver, Unopened, UnopenedOver};
 pub use opening::{open, open_over};
 pub use refused::OpenRefused;
-
-#[cfg(test)]
-mod tests;

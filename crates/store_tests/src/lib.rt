@@ -15,4 +15,6 @@ mod maps;
 #[cfg(test)]
 mod new_stores;
 #[cfg(test)]
+mod openings;
+#[cfg(test)]
 mod stable_blocks;

@@ -1,10 +1,10 @@
 //! Stores made by hand, opened: with a link that a commit left outstanding, cut off at each call, and with a half that was torn.
 ghost use Rattle.std.specs.Prelude.{◌≡◌, ◌*◌, length, IfOk};
 
-use crate::{OpenRefused, Opened, open};
 use afs_base::BlockNo;
 use drives::{Drives, Half, MemDrives, Pick, SureDrives};
 use page_codec::{Why, fresh_image};
+use recovery::{OpenRefused, Opened, open};
 use std::alloc::{AllocError, Global};
 use std::test::Fail;
 
