@@ -1,5 +1,5 @@
 use Rattle.draft_model.specs.Flush.{IsPlaced}
-use Rattle.version_chain.proofs.tests.blocks.compare.Given as goal
+use Rattle.tree_tests.proofs.versions.blocks.compare.Given as goal
 
 abbrev pub invariant-loop-next : goal.invariant-loop-next
 invariant-loop-next g l = IsPlaced (g.D.Draft.view l.draft) l.flush.placed

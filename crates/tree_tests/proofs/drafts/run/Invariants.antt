@@ -1,5 +1,5 @@
 use Rattle.std.proofs.Common.{◌<◌, ◌≤◌}
-use Rattle.draft_tree.proofs.tests.run.Given as goal
+use Rattle.tree_tests.proofs.drafts.run.Given as goal
 
 abbrev pub invariant-loop-fed : goal.invariant-loop-fed
 invariant-loop-fed g l = (l.draft.fed ≤ l._fed) × (l.draft.count < 128)
