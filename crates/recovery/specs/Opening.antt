@@ -54,21 +54,6 @@ abbrev pub pair_result : {V : Type 0} → Result (OpenedOver (Pair V)) (Unopened
 pair_result (Ok o) since = Ok (record { pair = o.store; table = o.table; map = o.map; heads = o.heads; since = since })
 pair_result (Err e) since = Err (record { drives = e.store.drives; why = e.why })
 
--- no half failed in a write
-abbrev pub NoWriteFailed : OpenRefused → Type 0
-NoWriteFailed (ReadFault half) = Unit {0}
-NoWriteFailed (WriteFault half) = ⊥
-NoWriteFailed (BadStore block why) = Unit {0}
-NoWriteFailed Memory = Unit {0}
-
-abbrev pub IsUntorn : {V : Type 0} → Result (Opened V) (Unopened V) → Type 0
-IsUntorn (Ok o) = Unit {0}
-IsUntorn (Err e) = NoWriteFailed e.why
-
-abbrev pub IsUntornOver : {B : Type 0} → Result (OpenedOver B) (UnopenedOver B) → Type 0
-IsUntornOver (Ok o) = Unit {0}
-IsUntornOver (Err e) = NoWriteFailed e.why
-
 -- on halves of so many blocks the first contents and the second ones stand for the same files, or for none for the same cause
 abbrev pub SameFound : ℕ → (ℕ → Option (List ℕ)) → (ℕ → Option (List ℕ)) → Type 0
 SameFound most f g = found g most ≡ found f most

@@ -11,7 +11,7 @@ use Rattle.store_check.specs.declared.version.FoundVersion.{FoundVersion}
 use Rattle.store_check.specs.Versions.{shown_of}
 use Rattle.recovery.specs.declared.refused.OpenRefused.{OpenRefused}
 use Rattle.recovery.specs.declared.refused.OpenRefused.TheVariants.{ReadFault, WriteFault, BadStore, Memory}
-use Rattle.recovery.specs.Opening.{IsFailed, NoWriteFailed, SameFound, heads_of}
+use Rattle.recovery.specs.Opening.{IsFailed, SameFound, heads_of}
 
 -- the same store, but for commit references and members
 pub record IsLike (before after : LaidStore) : Type 0 where
@@ -63,7 +63,7 @@ pub record Rolls {D T : Type 0} (tells : Type 0) (size moment : D → ℕ) (cont
   pub goes : tells → From (content before) (settled before) → OnOk result (To (content after) (settled after))
   pub goes_always : tells → From (content before) (settled_always before) → OnOk result (To (content after) (settled_always after))
   pub only : tells → From (content before) (settled before) → IfErr result IsHalfFailed
-  pub same : tells → From (content before) (settled before) → IfErr result NoWriteFailed → SameFound most (content before) (content after)
+  pub same : tells → From (content before) (settled before) → SameFound most (content before) (content after)
   pub images : tells → From (content before) (settled_always before) → Changes moment may_leave before after (SameFound most)
   pub unread : (h : Half) → IsErrOf result (ReadFault h)
       → IsFailed (faults before) (faults after) (last_fault after) (moment after) (tells → From (content before) (settled before) → ⊥) h

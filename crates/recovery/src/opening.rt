@@ -10,7 +10,7 @@ ghost use Rattle.version_chain.specs.declared.head.Head.{Head};
 ghost use Rattle.recovery.specs.declared.refused.OpenRefused.{OpenRefused};
 ghost use Rattle.recovery.specs.Known.{why_of};
 ghost use Rattle.recovery.specs.Rolling.{Never, Rolls, RollingLinks, RollingTops};
-ghost use Rattle.recovery.specs.Opening.{IsBad, IsFailed, IsNoStore, IsOpened, IsUntorn, IsUntornOver, SameFound, drives_of, pair_result, store_of};
+ghost use Rattle.recovery.specs.Opening.{IsBad, IsFailed, IsNoStore, IsOpened, SameFound, drives_of, pair_result, store_of};
 
 use crate::known::{Known, known_store};
 use crate::mending::mend_all;
@@ -66,10 +66,8 @@ fn rolled<B: Blocks>(store: B, known: Known, since: u64) -> Result<OpenedOver<B>
 /// set, and after all of them the members of each last version are cleared. The files that are found stay the same,
 /// whichever call fails and wherever a crash falls, so it may be begun anew.
 pub fn open_over<B: Blocks>(alloc: Global, store: B) -> Result<OpenedOver<B>, UnopenedOver<B>>
-    // The first holds on every exit, where the blocks are settled in everything that a crash may leave as the call begins.
-    ensures same { B.tells → IsMended (B.settled_always store) (B.content store) (B.size store)
-        → SameFound (B.size store) (B.content store) (B.content (store_of result)) }
-    ensures same_untorn { B.tells → IsMended (B.settled store) (B.content store) (B.size store) → IsUntornOver result
+    // On every exit, whichever call failed.
+    ensures same { B.tells → IsMended (B.settled store) (B.content store) (B.size store)
         → SameFound (B.size store) (B.content store) (B.content (store_of result)) }
     ensures images { B.tells → IsMended (B.settled_always store) (B.content store) (B.size store)
         → Changes B.moment B.may_leave store (store_of result) (SameFound (B.size store)) }
@@ -141,17 +139,14 @@ fn on_halves<V: Drives>(
 /// are set. The files that are found stay the same, whichever call fails and wherever a crash falls, so it may be begun
 /// anew. Where there is no store, or a half fails, or there is not enough memory, the drives come back.
 pub fn open<V: Drives>(alloc: Global, drives: V) -> Result<Opened<V>, Unopened<V>>
-    // These three hold on every exit where nothing is pending as the call begins.
-    ensures same { V.tells → IsAtRest V.seen V.moment V.may_leave drives
-        → SameFound (V.size drives) (content_of (halves_seen V.seen drives)) (content_of (halves_seen V.seen (drives_of result))) }
+    // Of what a crash may leave, where nothing is pending as the call begins.
     ensures images { V.tells → IsAtRest V.seen V.moment V.may_leave drives
         → Changes V.moment (ContentsLeft V.may_leave) drives (drives_of result) (SameFound (V.size drives)) }
     ensures settled_always { V.tells → IsAtRest V.seen V.moment V.may_leave drives
         → IfOk result (λ o. (n : ℕ) → n < length o.map → IsSettledAlways V.may_leave o.pair.drives (V.moment o.pair.drives) n) }
 
     // These hold whatever is pending.
-    ensures same_untorn { V.tells → IsUntorn result
-        → SameFound (V.size drives) (content_of (halves_seen V.seen drives)) (content_of (halves_seen V.seen (drives_of result))) }
+    ensures same { V.tells → SameFound (V.size drives) (content_of (halves_seen V.seen drives)) (content_of (halves_seen V.seen (drives_of result))) }
     ensures opened { V.tells → IfOk result (λ o. IsOpened (content_of (halves_seen V.seen o.pair.drives)) (V.size drives) o.table o.map o.heads.items) }
     ensures bad { V.tells → IfErr result (λ e. IsBad (found (content_of (halves_seen V.seen drives)) (V.size drives)) e.why) }
     ensures unread { (h : Half) → IfErr result (λ e. e.why ≡ OpenRefused.ReadFault h
