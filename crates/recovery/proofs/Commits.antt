@@ -1,19 +1,13 @@
 -- Reading a version page, and writing it with its link or without its members: two calls as one step.
-use Rattle.std.proofs.Common.{◌≡◌, ◌≢◌, ◌⊎◌, inl, inr, ◌↔◌, ℕ, ◌+◌, ◌^◌, ◌<◌, ◌≤◌, List, Option, Some, None, Result, Ok, Err, length, refl, sym, ap, subst, ◌∙◌, arith, slice_get}
-use Rattle.page_codec.proofs.FrameLaws.{IsBlock}
-use Rattle.pair_store.specs.Blocks.{OldOrNew, SameOthers}
+use Rattle.std.proofs.Common.{◌≡◌, ◌≢◌, ◌⊎◌, inl, inr, ℕ, List, Some, Ok, sym, subst}
 use Rattle.pair_store.specs.Answers.{IsSet, LeftAlone}
 use Rattle.pair_store.specs.declared.outcome.Tas.{Tas}
 use Rattle.pair_store.specs.declared.outcome.Tas.TheVariants.{Set, Taken}
 use Rattle.pair_store.specs.ContentLaws.{decide}
-use Rattle.pair_store.specs.Pages.{with_commit as commit_bytes, without_members as cleared_bytes}
-use Rattle.store_check.specs.declared.chain.Chain.{Chain}
-use Rattle.store_check.specs.Files.{chains_of}
-use Rattle.store_model.specs.Found.{LaidStore, found}
+use Rattle.store_model.specs.Found.{LaidStore}
 use Rattle.store_model.proofs.Steps.{Content}
 use Rattle.recovery.specs.Rolling.{RollingLinks, RollingTops}
-use Rattle.recovery.proofs.Rolls.{PageAt}
-use Rattle.recovery.proofs.Writes.{SetOrFailed, more_links, more_tops, link_body, link_nil, link_low, link_written, link_found, link_images, top_body, top_low, top_written, top_found, top_images}
+use Rattle.recovery.proofs.Writes.{SetOrFailed, more_links, more_tops}
 
 -- all blocks stay settled where the one that is written is, and the others do
 pub settles_all : (s t : ℕ → Type 0) (n : ℕ) → t n → ((k : ℕ) → k ≢ n → s k → t k) → (k : ℕ) → s k → t k

@@ -1,14 +1,14 @@
 -- What is kept of the versions of a file, and that it stays where a commit reference or members change.
-use Rattle.std.proofs.Common.{◌≡◌, ◌≢◌, ℕ, zero, suc, ◌+◌, ◌-◌, ◌<◌, true, false, List, [], ◌∷◌, ◌++◌, length, length-append, Option, Some, None, option_map, refl, sym, ap, ◌∙◌, arith, slice_get, get_or, map, if◌then◌else◌}
+use Rattle.std.proofs.Common.{◌≡◌, ◌≢◌, ℕ, zero, suc, ◌+◌, ◌-◌, ◌<◌, List, [], ◌∷◌, ◌++◌, length, length-append, Option, Some, None, option_map, refl, sym, ap, ◌∙◌, arith, slice_get, get_or, map, if◌then◌else◌}
 use Rattle.std.specs.Option.{is_none}
 use Rattle.std.specs.List.{fold}
 use Rattle.version_chain.specs.declared.head.Head.{Head}
-use Rattle.store_model.specs.Laid.{Node, LaidVersion, LaidFile, last_laid}
-use Rattle.store_model.specs.Changes.{changed_at, file_with, IsLinked}
+use Rattle.store_model.specs.Laid.{LaidVersion, LaidFile, last_laid}
+use Rattle.store_model.specs.Changes.{changed_at, file_with}
 use Rattle.store_model.proofs.Edits.{some_is, none_some, changed_length, map_changed}
 use Rattle.store_check.specs.declared.chain.Chain.{Chain}
 use Rattle.store_check.specs.Versions.{shown_of}
-use Rattle.store_check.specs.Files.{first_serial, kept_by, own_pages, unset_base, chain_of, chains_of}
+use Rattle.store_check.specs.Files.{first_serial, kept_by, own_pages, unset_base, chain_of}
 use Rattle.recovery.specs.Opening.{head_of, heads_of}
 
 -- ---- an item of a list that was mapped

@@ -1,5 +1,5 @@
 -- What is told of the files of a store, from what is kept of them; and that each last version is in a block of the store.
-use Rattle.std.proofs.Common.{◌≡◌, ℕ, zero, suc, ◌+◌, ◌-◌, ◌<◌, ◌≤◌, List, [], ◌∷◌, ◌++◌, length, ◌⊎◌, inl, inr, Option, Some, None, Ok, option_map, refl, sym, ap, subst, ◌∙◌, arith, slice_get, map}
+use Rattle.std.proofs.Common.{◌≡◌, ℕ, suc, ◌-◌, ◌<◌, List, [], ◌∷◌, length, inl, inr, Option, Some, None, Ok, option_map, refl, sym, ap, subst, ◌∙◌, arith, slice_get}
 use Rattle.version_chain.specs.declared.head.Head.{Head}
 use Rattle.store_model.specs.Laid.{LaidVersion, LaidFile, last_laid}
 use Rattle.store_model.specs.Members.{longer, tops_from, tops_linked}

@@ -1,22 +1,21 @@
 -- Links that are outstanding, and what becomes of a store once one of them is set.
-use Rattle.std.proofs.Common.{◌≡◌, ◌≢◌, ℕ, zero, suc, ◌+◌, ◌-◌, ◌<◌, ◌≤◌, ◌^◌, true, nat_eq, List, [], ◌∷◌, ◌++◌, length, ◌⊎◌, inl, inr, Option, Some, None, Ok, option_map, refl, sym, ap, subst, ◌∙◌, append-nil, arith, slice_get, map, leb-true}
+use Rattle.std.proofs.Common.{◌≡◌, ◌≢◌, ℕ, suc, ◌+◌, ◌-◌, ◌<◌, ◌≤◌, List, [], ◌++◌, length, ◌⊎◌, inl, inr, Option, Some, None, Ok, option_map, refl, sym, ap, subst, ◌∙◌, append-nil, arith, slice_get, leb-true}
 use Rattle.std.specs.Option.{option_and_then}
 use Rattle.page_codec.specs.Values.{VersionValue}
 use Rattle.page_codec.specs.Causes.{version_of}
 use Rattle.store_model.specs.Laid.{LaidVersion, LaidFile, last_laid}
-use Rattle.store_model.specs.Members.{Linked, tops_from, tops_linked}
-use Rattle.store_model.specs.Found.{LaidStore, laid, found, state_of}
+use Rattle.store_model.specs.Members.{tops_from}
+use Rattle.store_model.specs.Found.{LaidStore, laid, found}
 use Rattle.store_model.specs.Changes.{version_in_block, Rewrites, with_commit, committed, changed_at, file_with, store_with, LiesIn, Outstanding, IsLinked}
 use Rattle.store_model.specs.Links.{LastLink}
-use Rattle.store_model.proofs.PlaceLists.{IsIn, in_along, in_either, none_in}
+use Rattle.store_model.proofs.PlaceLists.{IsIn, in_along, in_either}
 use Rattle.store_model.proofs.Steps.{Content, InRange, Ran}
 use Rattle.store_model.proofs.Locality.{framed_rows, framed_files, framed_tops, laid_alike}
 use Rattle.store_model.proofs.Rewriting.{same_version, Bytes, bytes_of}
 use Rattle.store_model.proofs.Chaining.{last_from}
 use Rattle.store_model.proofs.Stores.{unlinked, Parts, parts_of}
-use Rattle.store_model.proofs.Aside.{objects_in}
 use Rattle.store_model.proofs.Hits.{tops_outcome}
-use Rattle.store_model.proofs.Edits.{some_is, none_some, changed_other, changed_same, changed_length, map_changed, within}
+use Rattle.store_model.proofs.Edits.{some_is, none_some, changed_other, changed_same, changed_length, map_changed}
 use Rattle.store_model.proofs.SettingLinks.{Found, finds, linking_keeps}
 use Rattle.store_model.proofs.LastLinks.{links_are_set, linked_now}
 use Rattle.pair_store.specs.ContentLaws.{decide}
@@ -24,7 +23,6 @@ use Rattle.store_check.specs.declared.chain.Chain.{Chain}
 use Rattle.store_check.specs.declared.version.FoundVersion.{FoundVersion}
 use Rattle.store_check.specs.Versions.{shown_of}
 use Rattle.store_check.specs.Files.{chain_of, chains_of, unset_base}
-use Rattle.recovery.specs.Opening.{heads_of}
 use Rattle.recovery.specs.Rolling.{IsLike, Stands, RollingLinks, lasts_of}
 use Rattle.recovery.proofs.Heads.{MapAt, map_at, map_get, KeptOf, kept_of, kept_none, unset_last, unset_none, KeepsHead, heads_kept}
 
@@ -221,9 +219,6 @@ module _ (c d : Content) (s t : ℕ → Type 0) (most : ℕ) (before : LaidStore
   set_lies : LiesIn d most set_store r.stands.order × (found d most ≡ found c most)
   unfolding set_store
   set_lies = linking_keeps c d most r.stands.store r.stands.order r.stands.laid l.link rw
-
-  pub set_found : found d most ≡ found c most
-  set_found = set_lies.1
 
   set_like : IsLike before set_store
   unfolding set_store

@@ -1,36 +1,31 @@
 -- What an opening comes to, from what rolling forward does.
-use Rattle.std.proofs.Common.{◌≡◌, ◌≢◌, ◌⊎◌, inl, inr, ℕ, zero, suc, ◌+◌, ◌-◌, ◌^◌, ◌<◌, ◌≤◌, ◌==◌, ◌||◌, ◌↔◌, min, true, nat_eq, List, [], ◌∷◌, length, Option, Some, None, Result, Ok, Err, refl, sym, ap, subst, ◌∙◌, arith, slice_get, map, leb-true}
+use Rattle.std.proofs.Common.{◌≡◌, ◌≢◌, ◌⊎◌, inl, inr, ℕ, ◌+◌, ◌-◌, ◌^◌, ◌<◌, ◌≤◌, ◌==◌, ◌||◌, min, nat_eq, List, [], length, Option, Some, Result, Ok, Err, refl, sym, ap, subst, ◌∙◌, arith, map, leb-true}
 use Rattle.std.specs.Prelude.{OnOk, IfOk, IfErr}
 use Rattle.std.specs.List.{list_any}
-use Rattle.std.proofs.Math.Path.{fun_ext}
 use Rattle.block_map.specs.declared.states.BlockState.{BlockState}
 use Rattle.drives.specs.declared.device.Half.{Half}
-use Rattle.drives.specs.Changes.{Changes}
-use Rattle.drives.proofs.Composing.{goes_on, leaves_now}
 use Rattle.page_codec.specs.Values.{RootValue, TableValue}
-use Rattle.page_codec.specs.TableReading.{root_of}
 use Rattle.pair_store.specs.ContentLaws.{decide}
 use Rattle.version_chain.specs.declared.head.Head.{Head}
 use Rattle.tree_model.specs.States.{State}
 use Rattle.store_model.specs.Laid.{LaidFile}
 use Rattle.store_model.specs.Walk.{Refused}
-use Rattle.store_model.specs.Found.{LaidStore, laid, found, state_of}
+use Rattle.store_model.specs.Found.{LaidStore, laid, found}
 use Rattle.store_model.proofs.Steps.{Content}
 use Rattle.store_model.proofs.Stores.{Parts, parts_of}
 use Rattle.store_model.proofs.Edits.{within}
-use Rattle.store_check.specs.Checked.{IsMended, LikeTable}
-use Rattle.store_check.specs.Files.{chain_of, chains_of}
-use Rattle.store_check.specs.Marks.{Marks, is_kept, mark_of}
+use Rattle.store_check.specs.Checked.{IsMended}
+use Rattle.store_check.specs.Files.{chain_of}
+use Rattle.store_check.specs.Marks.{Marks, mark_of}
 use Rattle.recovery.specs.declared.known.Known.{Known}
 use Rattle.recovery.specs.declared.opened.OpenedOver.{OpenedOver}
 use Rattle.recovery.specs.declared.opened.UnopenedOver.{UnopenedOver}
 use Rattle.recovery.specs.declared.refused.OpenRefused.{OpenRefused}
 use Rattle.recovery.specs.declared.refused.OpenRefused.TheVariants.{ReadFault, WriteFault, BadStore, Memory}
-use Rattle.recovery.specs.Opening.{IsBad, IsFailed, IsNoStore, IsOpened, IsRolled, IsUntornOver, NoWriteFailed, SameFound, heads_of, store_of}
+use Rattle.recovery.specs.Opening.{IsBad, IsFailed, IsOpened, store_of}
 use Rattle.recovery.specs.Known.{IsKnown, why_of}
-use Rattle.recovery.specs.Rolling.{IsHalfFailed, Never, Rolls, RollingLinks, RollingTops, Stands}
+use Rattle.recovery.specs.Rolling.{IsHalfFailed, RollingLinks, RollingTops}
 use Rattle.recovery.proofs.Heads.{map_long}
-use Rattle.recovery.proofs.Links.{laid_again}
 use Rattle.recovery.proofs.Rolls.{failed_since}
 
 -- each block of a store that was mended is settled
@@ -118,10 +113,6 @@ pub bad_err : {D : Type 0} (most : ℕ) (c : Content) (r : Result (OpenedOver D)
 bad_err most c (Ok o) only = tt
 bad_err most c (Err e) only = fault_bad (found c most) e.why only
 
-pub untorn_over : {D : Type 0} (r : Result (OpenedOver D) (UnopenedOver D)) → IsUntornOver r → IfErr (why_of r) NoWriteFailed
-untorn_over (Ok o) untorn = tt
-untorn_over (Err e) untorn = untorn
-
 -- A half that failed in a read while a store that is found was rolled forward: its last fault was in the last call.
 pub unread_err : {D : Type 0} (early faults_before : Half → ℕ) (faults last_fault : D → Half → ℕ) (moment : D → ℕ) (F M : Type 0) (N : Type 0) (r : Result (OpenedOver D) (UnopenedOver D)) (h : Half)
     → early h ≤ faults_before h
@@ -140,20 +131,6 @@ unread_err early faults_before faults last_fault moment F M N (Err e) h le fails
       | inl at ↦ inl at
       | inr (stood, f) ↦ inr (stood, λ m. elim (told m (ap Err is)).last [ inl at ↦ absurd (off at) | inr (again, never) ↦ absurd never ])
     ]
-
--- what is found at the end is what a crash then leaves
-pub same_by_images : {D : Type 0} (moment : D → ℕ) (content : D → Content) (may_leave : D → ℕ → Content → Type 0) (s : ℕ → Type 0) (most : ℕ) (a b : D) (store : LaidStore) (places : List ℕ)
-    → laid (content a) most [] ≡ Ok (store, places) → IsMended s (content a) most
-    → ((n : ℕ) (f : Content) → s n → may_leave a (moment a) f → f n ≡ content a n)
-    → may_leave b (moment b) (content b)
-    → Changes moment may_leave a b (SameFound most)
-    → SameFound most (content a) (content b)
-same_by_images moment content may_leave s most a b store places e mended left read images =
-    let from = leaves_now moment may_leave a b (SameFound most) images (content b) read in
-    let again : laid from.0 most [] ≡ Ok (store, places) =
-    laid_again (content a) from.0 most store places e (left 0 from.0 mended.table from.1)
-    (λ n low. left n from.0 (each_mended (content a) s most store places e mended n low) from.1) in
-    from.2 ∙ ap state_of again ∙ sym (ap state_of e)
 
 -- the same, with one premise after the other
 pub curried : {D : Type 0} (M M' N : Type 0) (early : Half → ℕ) (faults last_fault : D → Half → ℕ) (moment : D → ℕ) (r : Result (OpenedOver D) (UnopenedOver D)) (h : Half)

@@ -1,28 +1,25 @@
 -- From an opening over a store of blocks to one over its two halves.
-use Rattle.std.proofs.Common.{◌≡◌, ◌⊎◌, inl, inr, ℕ, ◌+◌, ◌-◌, ◌^◌, ◌<◌, ◌≤◌, min, List, [], length, Option, Some, None, Result, Ok, Err, refl, sym, ap, subst, ◌∙◌, arith}
+use Rattle.std.proofs.Common.{◌≡◌, ℕ, ◌<◌, ◌≤◌, List, [], length, Option, None, Result, Ok, Err, refl, sym, ap, subst, ◌∙◌}
 use Rattle.std.specs.Prelude.{IfOk, IfErr}
 use Rattle.std.proofs.Math.Path.{fun_ext}
 use Rattle.drives.specs.declared.device.Half.{Half}
 use Rattle.drives.specs.declared.device.Half.TheVariants.{A, B}
-use Rattle.drives.specs.Changes.{Changes, Halves, HalvesLeft, IsAtRest, halves_seen}
+use Rattle.drives.specs.Changes.{Changes, Halves, IsAtRest, halves_seen}
 use Rattle.drives.proofs.Composing.{goes_on, leaves_now}
 use Rattle.page_codec.specs.declared.why.Why.TheVariants.{Closed}
 use Rattle.pair_store.specs.declared.on_halves.Pair.{Pair}
 use Rattle.pair_store.specs.Content.{ContentsLeft, IsSettled, IsSettledAlways, content_of}
-use Rattle.pair_store.specs.Faults.{IsStopped, IsUnread}
 use Rattle.tree_model.specs.States.{State}
 use Rattle.store_model.specs.Walk.{Refused, bind, content_at, refuse}
 use Rattle.store_model.specs.Found.{laid, laid_from, found, state_of}
 use Rattle.store_model.proofs.Steps.{Content}
 use Rattle.store_check.specs.Checked.{IsMended}
-use Rattle.recovery.specs.declared.opened.Opened.{Opened}
-use Rattle.recovery.specs.declared.opened.Unopened.{Unopened}
 use Rattle.recovery.specs.declared.opened.OpenedOver.{OpenedOver}
 use Rattle.recovery.specs.declared.opened.UnopenedOver.{UnopenedOver}
 use Rattle.recovery.specs.declared.refused.OpenRefused.{OpenRefused}
 use Rattle.recovery.specs.Mended.{OnlyMended}
-use Rattle.recovery.specs.Opening.{IsBad, IsFailed, IsNoStore, IsOpened, IsUntorn, IsUntornOver, SameFound, drives_of, pair_result, store_of}
-use Rattle.recovery.proofs.Rolls.{failed_since, read_images, stopped_failed, unread_failed}
+use Rattle.recovery.specs.Opening.{IsBad, IsFailed, IsNoStore, IsOpened, SameFound, drives_of, pair_result, store_of}
+use Rattle.recovery.proofs.Rolls.{failed_since, read_images}
 
 -- where block 0 has no content there is no store
 closed_laid : (c : Content) (most : ℕ) (o : Option (List ℕ)) → o ≡ None → bind (content_at 0 o) (laid_from c most) [] ≡ Err (record { block = 0; why = Closed })
@@ -36,10 +33,6 @@ no_content c most is = (record { block = 0; why = Closed }, ap state_of (closed_
 pub drives_same : {V : Type 0} (r : Result (OpenedOver (Pair V)) (UnopenedOver (Pair V))) (since : ℕ) → drives_of (pair_result r since) ≡ (store_of r).drives
 drives_same (Ok o) since = refl
 drives_same (Err e) since = refl
-
-pub untorn_pair : {V : Type 0} (r : Result (OpenedOver (Pair V)) (UnopenedOver (Pair V))) (since : ℕ) → IsUntorn (pair_result r since) → IsUntornOver r
-untorn_pair (Ok o) since untorn = tt
-untorn_pair (Err e) since untorn = untorn
 
 pub bad_pair : {V : Type 0} (x y : Result State Refused) (r : Result (OpenedOver (Pair V)) (UnopenedOver (Pair V))) (since : ℕ) → x ≡ y → IfErr r (λ e. IsBad x e.why) → IfErr (pair_result r since) (λ e. IsBad y e.why)
 bad_pair x y (Ok o) since same bad = tt

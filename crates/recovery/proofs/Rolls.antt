@@ -1,6 +1,5 @@
 -- Calls that go on from one state of a store to the next, in a row; and one call on a block.
 use Rattle.std.proofs.Common.{◌≡◌, inl, inr, ℕ, min, ◌+◌, ◌^◌, ◌-◌, ◌<◌, ◌≤◌, ◌↔◌, List, Option, Some, None, Result, Ok, Err, refl, sym, ap, subst, ◌∙◌, arith}
-use Rattle.std.specs.Prelude.{OnOk, IfErr, IsErrOf}
 use Rattle.std.proofs.Math.Path.{fun_ext}
 use Rattle.drives.specs.declared.device.Half.{Half}
 use Rattle.drives.specs.Changes.{Changes}
@@ -18,8 +17,8 @@ use Rattle.store_check.proofs.ReadOnly.{failed_before}
 use Rattle.store_model.specs.Found.{found}
 use Rattle.store_model.proofs.Edits.{none_some}
 use Rattle.recovery.specs.declared.refused.OpenRefused.{OpenRefused}
-use Rattle.recovery.specs.declared.refused.OpenRefused.TheVariants.{ReadFault, WriteFault, BadStore, Memory}
-use Rattle.recovery.specs.Opening.{IsFailed, NoWriteFailed, SameFound, refused_call}
+use Rattle.recovery.specs.declared.refused.OpenRefused.TheVariants.{ReadFault, WriteFault, BadStore}
+use Rattle.recovery.specs.Opening.{IsFailed, SameFound, refused_call}
 use Rattle.recovery.specs.Rolling.{IsHalfFailed, Never, Rolls}
 
 -- a state: what is told of contents, and of which blocks are settled
@@ -113,7 +112,7 @@ module _ {D : Type 0} (tells : Type 0) (size moment : D → ℕ) (content : D �
     goes = λ told from. to (content d) (settled d) from;
     goes_always = λ told from. to (content d) (settled_always d) from;
     only = λ told from. tt;
-    same = λ told from untorn. refl;
+    same = λ told from. refl;
     images = λ told from. stays moment may_leave d (SameFound most) clock (λ f. refl);
     unread = λ h is. never_err x (ReadFault h) is;
     unwritten = λ h is. never_err x (WriteFault h) is;
@@ -130,7 +129,7 @@ module _ {D : Type 0} (tells : Type 0) (size moment : D → ℕ) (content : D �
     goes = λ told from. second.goes told (first.goes told from);
     goes_always = λ told from. second.goes_always told (first.goes_always told from);
     only = λ told from. second.only told (first.goes told from);
-    same = λ told from untorn. second.same told (first.goes told from) untorn ∙ first.same told from tt;
+    same = λ told from. second.same told (first.goes told from) ∙ first.same told from;
     images = λ told from. goes_on moment may_leave a b c (SameFound most) (SameFound most) (SameFound most) (SameFound most)
         (first.images told from) (leaves_now moment may_leave a b (SameFound most) (first.images told from))
         (second.images told (first.goes_always told from)) (λ f g left q. q) (λ f g h left q s. s ∙ q);
@@ -150,7 +149,7 @@ module _ {D : Type 0} (tells : Type 0) (size moment : D → ℕ) (content : D �
     goes = λ told from. tt;
     goes_always = λ told from. tt;
     only = λ told from. r.only told from;
-    same = λ told from untorn. r.same told from untorn;
+    same = λ told from. r.same told from;
     images = λ told from. r.images told from;
     unread = λ h is. r.unread h (ap Err (same_err {T = T} e (ReadFault h) is));
     unwritten = λ h is. r.unwritten h (ap Err (same_err {T = T} e (WriteFault h) is));
@@ -165,7 +164,7 @@ module _ {D : Type 0} (tells : Type 0) (size moment : D → ℕ) (content : D �
     goes = λ told from. absurd from;
     goes_always = λ told from. absurd from;
     only = λ told from. absurd from;
-    same = λ told from untorn. absurd from;
+    same = λ told from. absurd from;
     images = λ told from. absurd from;
     unread = λ h is. never_err x (ReadFault h) is;
     unwritten = λ h is. never_err x (WriteFault h) is;
@@ -184,7 +183,7 @@ module _ {D : Type 0} (tells : Type 0) (size moment : D → ℕ) (content : D �
     goes = λ told from. tt;
     goes_always = λ told from. tt;
     only = λ told from. absurd from;
-    same = λ told from untorn. absurd from;
+    same = λ told from. absurd from;
     images = λ told from. absurd from;
     unread = λ h is. unread_failed (faults a) (faults b) (last_fault b) (moment b) (N h) (tells → Never (content a) (settled a) → ⊥) h
         (λ empty told from. from) (unread h (fault_read fault h (same_err {T = T} (refused_call fault) (ReadFault h) is)));
@@ -201,7 +200,7 @@ module _ {D : Type 0} (tells : Type 0) (size moment : D → ℕ) (content : D �
     goes = λ told from. tt;
     goes_always = λ told from. tt;
     only = λ told from. never told from;
-    same = λ told from untorn. refl;
+    same = λ told from. refl;
     images = λ told from. stays moment may_leave d (SameFound most) clock (λ f. refl);
     unread = λ h is. no_read {T = T} block why h is;
     unwritten = λ h is. no_write {T = T} block why h is;
@@ -213,18 +212,18 @@ module _ {D : Type 0} (tells : Type 0) (size moment : D → ℕ) (content : D �
   pub rolls_failed : {T : Type 0} (From To : State) (n : ℕ) (fault : PairFault) (a b : D)
       → (tells → From (content a) (settled a) → PageAt (content a) (settled a) n)
       → (tells → From (content a) (settled a) → IsHalfFailed (refused_call fault))
-      → (tells → From (content a) (settled a) → NoWriteFailed (refused_call fault) → SameContents (content a) (content b))
+      → (tells → From (content a) (settled a) → SameFound most (content a) (content b))
       → (tells → From (content a) (settled_always a) → Changes moment may_leave a b (SameFound most))
       → ((h : Half) → fault ≡ Unread h → IsUnread (faults a) (faults b) (last_fault b) (moment b) (tells → settled a n → content a n ≡ None) h)
       → ((h : Half) → fault ≡ Unwritten h → IsStopped (faults a) (faults b) (last_fault b) (moment b) h)
       → ((h : Half) → (faults a h ≤ faults b h) × (last_fault a h ≤ last_fault b h))
       → size b ≡ size a
       → Rolls tells size moment content may_leave settled settled_always faults last_fault most From To (let q : Result T OpenRefused = Err (refused_call fault) in q) a b
-  rolls_failed {T} From To n fault a b at only quiet images unread stopped later size_same = record {
+  rolls_failed {T} From To n fault a b at only same images unread stopped later size_same = record {
     goes = λ told from. tt;
     goes_always = λ told from. tt;
     only = only;
-    same = λ told from untorn. ap (λ c. found c most) (fun_ext (quiet told from untorn));
+    same = same;
     images = images;
     unread = λ h is. unread_failed (faults a) (faults b) (last_fault b) (moment b) (tells → settled a n → content a n ≡ None) (tells → From (content a) (settled a) → ⊥) h
         (λ empty told from. let p = at told from in none_some (sym (empty told p.settled) ∙ p.holds))
@@ -258,7 +257,7 @@ module _ {D : Type 0} (tells : Type 0) (size moment : D → ℕ) (content : D �
       same told n ∙ given told (at told (more (content a) (settled_always a) (settled a) (now told) from)),
     );
     only = λ told from. tt;
-    same = λ told from untorn. ap (λ c. found c most) (fun_ext (same told));
+    same = λ told from. ap (λ c. found c most) (fun_ext (same told));
     images = λ told from. read_images moment may_leave most a b images;
     unread = λ h is. never_err x (ReadFault h) is;
     unwritten = λ h is. never_err x (WriteFault h) is;
@@ -266,17 +265,32 @@ module _ {D : Type 0} (tells : Type 0) (size moment : D → ℕ) (content : D �
     size_same = size_same;
   }
 
-  -- A block is written: what is found stays with the old bytes and with the new ones.
+  -- A block is written, or the write fails: what is found stays with the old bytes and with the new ones.
   module _ (From To : State) (n : ℕ) (body : List ℕ) (a b : D)
       (more : (c : ℕ → Option (List ℕ)) (s t : ℕ → Type 0) → ((k : ℕ) → s k → t k) → From c s → From c t)
       (at : (c : ℕ → Option (List ℕ)) (s : ℕ → Type 0) → From c s → s n)
-      (images_as : (c x y : ℕ → Option (List ℕ)) (s : ℕ → Type 0) → From c s → ((k : ℕ) → s k → x k ≡ c k) → OldOrNew n body x y → found y most ≡ found x most)
+      (either_as : (c x y : ℕ → Option (List ℕ)) (s : ℕ → Type 0) → From c s → ((k : ℕ) → s k → x k ≡ c k) → OldOrNew n body x y → found y most ≡ found x most)
       (left : tells → (k : ℕ) (f : ℕ → Option (List ℕ)) → settled_always a k → may_leave a (moment a) f → f k ≡ content a k)
-      (images : tells → From (content a) (settled_always a) → settled_always a n → Changes moment may_leave a b (OldOrNew n body)) where
-    pub wrote_images : tells → From (content a) (settled_always a) → Changes moment may_leave a b (SameFound most)
+      (images : tells → From (content a) (settled_always a) → settled_always a n → Changes moment may_leave a b (OldOrNew n body))
+      (either : tells → From (content a) (settled a) → settled a n → OldOrNew n body (content a) (content b)) where
+    wrote_images : tells → From (content a) (settled_always a) → Changes moment may_leave a b (SameFound most)
     wrote_images told from =
         weaker moment may_leave a b (OldOrNew n body) (SameFound most) (images told from (at (content a) (settled_always a) from))
-        (λ x y may change. images_as (content a) x y (settled_always a) from (λ k s. left told k x s may) change)
+        (λ x y may change. either_as (content a) x y (settled_always a) from (λ k s. left told k x s may) change)
+
+    wrote_same : tells → From (content a) (settled a) → SameFound most (content a) (content b)
+    wrote_same told from =
+        either_as (content a) (content a) (content b) (settled a) from (λ k s. refl) (either told from (at (content a) (settled a) from))
+
+    pub rolls_torn : {T : Type 0} (fault : PairFault)
+        → (tells → From (content a) (settled a) → PageAt (content a) (settled a) n)
+        → (tells → From (content a) (settled a) → IsHalfFailed (refused_call fault))
+        → ((h : Half) → fault ≡ Unread h → IsUnread (faults a) (faults b) (last_fault b) (moment b) (tells → settled a n → content a n ≡ None) h)
+        → ((h : Half) → fault ≡ Unwritten h → IsStopped (faults a) (faults b) (last_fault b) (moment b) h)
+        → ((h : Half) → (faults a h ≤ faults b h) × (last_fault a h ≤ last_fault b h))
+        → size b ≡ size a
+        → Rolls tells size moment content may_leave settled settled_always faults last_fault most From To (let q : Result T OpenRefused = Err (refused_call fault) in q) a b
+    rolls_torn fault page only unread stopped later size_same = rolls_failed From To n fault a b page only wrote_same wrote_images unread stopped later size_same
 
     pub rolls_wrote : {T : Type 0} (x : T)
         → (tells → From (content a) (settled a) → content b n ≡ Some body)
@@ -285,17 +299,16 @@ module _ {D : Type 0} (tells : Type 0) (size moment : D → ℕ) (content : D �
         → (tells → (k : ℕ) → settled_always a k → settled_always b k)
         → (tells → (k : ℕ) → settled_always a k → settled a k)
         → ((c d : ℕ → Option (List ℕ)) (s t : ℕ → Type 0) → From c s → d n ≡ Some body → SameOthers n c d → ((k : ℕ) → s k → t k) → To d t)
-        → ((c d : ℕ → Option (List ℕ)) (s : ℕ → Type 0) → From c s → d n ≡ Some body → SameOthers n c d → found d most ≡ found c most)
         → ((h : Half) → (faults a h ≤ faults b h) × (last_fault a h ≤ last_fault b h))
         → size b ≡ size a
         → Rolls tells size moment content may_leave settled settled_always faults last_fault most From To (let q : Result T OpenRefused = Ok x in q) a b
-    rolls_wrote x written others settles settles_always now to found_as later size_same = record {
+    rolls_wrote x written others settles settles_always now to later size_same = record {
       goes = λ told from. to (content a) (content b) (settled a) (settled b) from (written told from) (others told) (settles told);
       goes_always = λ told from. to (content a) (content b) (settled_always a) (settled_always b) from
           (written told (more (content a) (settled_always a) (settled a) (now told) from)) (others told) (settles_always told);
       only = λ told from. tt;
-      same = λ told from untorn. found_as (content a) (content b) (settled a) from (written told from) (others told);
-      images = λ told from. wrote_images told from;
+      same = wrote_same;
+      images = wrote_images;
       unread = λ h is. never_err x (ReadFault h) is;
       unwritten = λ h is. never_err x (WriteFault h) is;
       later = later;

@@ -1,5 +1,5 @@
 -- Members that a last version names, and what becomes of a store once they are cleared.
-use Rattle.std.proofs.Common.{◌≡◌, ◌≢◌, ℕ, zero, suc, ◌+◌, ◌-◌, ◌<◌, ◌≤◌, ◌==◌, Bool, true, false, List, [], ◌∷◌, length, ◌⊎◌, inl, inr, Option, Some, None, Ok, option_map, refl, sym, ap, subst, ◌∙◌, arith, slice_get, map, true≢false}
+use Rattle.std.proofs.Common.{◌≡◌, ◌≢◌, ℕ, zero, suc, ◌+◌, ◌-◌, ◌<◌, ◌==◌, Bool, true, false, List, [], length, ◌⊎◌, inl, inr, Option, Some, None, Ok, option_map, refl, sym, ap, subst, ◌∙◌, arith, slice_get, map}
 use Rattle.page_codec.specs.Values.{VersionValue}
 use Rattle.page_codec.specs.Causes.{version_of}
 use Rattle.store_model.specs.Laid.{LaidVersion, LaidFile, last_laid}
@@ -22,7 +22,6 @@ use Rattle.store_check.specs.declared.chain.Chain.{Chain}
 use Rattle.store_check.specs.declared.version.FoundVersion.{FoundVersion}
 use Rattle.store_check.specs.Versions.{shown_of}
 use Rattle.store_check.specs.Files.{chain_of, chains_of}
-use Rattle.recovery.specs.Opening.{heads_of}
 use Rattle.recovery.specs.Rolling.{IsLike, Stands, RollingLinks, RollingTops, lasts_of}
 use Rattle.recovery.proofs.Heads.{MapAt, map_at, map_get, map_long, KeptOf, kept_of, kept_none, KeepsHead, heads_kept}
 
@@ -205,9 +204,6 @@ module _ (c d : Content) (s t : ℕ → Type 0) (most : ℕ) (before : LaidStore
   clear_lies : LiesIn d most clear_store r.stands.order × (found d most ≡ found c most)
   unfolding clear_store place
   clear_lies = clearing_keeps c d most r.stands.store r.stands.order r.stands.laid a.version a.top a.links rw
-
-  pub clear_found : found d most ≡ found c most
-  clear_found = clear_lies.1
 
   clear_like : IsLike before clear_store
   unfolding clear_store place

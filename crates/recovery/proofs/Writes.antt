@@ -1,12 +1,12 @@
--- The block of a version page written with its link, or without its members: what is found stays, also where a crash leaves the old bytes.
-use Rattle.std.proofs.Common.{◌≡◌, ◌≢◌, ◌⊎◌, inl, inr, ℕ, ◌+◌, ◌^◌, ◌-◌, ◌<◌, ◌≤◌, List, [], Option, Some, None, Result, Ok, Err, length, refl, sym, ap, subst, ◌∙◌, arith, slice_get}
+-- The block of a version page written with its link, or without its members: what is found stays, also where a crash or a failed write leaves the old bytes.
+use Rattle.std.proofs.Common.{◌≡◌, inl, inr, ℕ, ◌+◌, ◌^◌, ◌<◌, ◌≤◌, List, [], Some, None, Result, Ok, Err, length, sym, ap, subst, ◌∙◌, slice_get}
 use Rattle.std.proofs.Math.Path.{fun_ext}
 use Rattle.page_codec.specs.declared.why.Why.{Why}
 use Rattle.page_codec.specs.Values.{VersionValue}
 use Rattle.page_codec.specs.Causes.{version_of}
 use Rattle.page_codec.proofs.FrameLaws.{IsBlock}
 use Rattle.pair_store.specs.Blocks.{OldOrNew, SameOthers}
-use Rattle.pair_store.specs.Answers.{HasCommit, HasVersion, HasNoVersion, IsTested, IsCleared, IsRefused, LeftAlone}
+use Rattle.pair_store.specs.Answers.{IsTested, IsCleared}
 use Rattle.pair_store.specs.ContentLaws.{decide}
 use Rattle.pair_store.specs.Pages.{with_commit as commit_bytes, without_members as cleared_bytes}
 use Rattle.pair_store.specs.declared.fault.PairFault.{PairFault}
@@ -14,7 +14,7 @@ use Rattle.pair_store.specs.declared.fault.PairFault.TheVariants.{ReadFault as U
 use Rattle.pair_store.specs.declared.outcome.Tas.{Tas}
 use Rattle.pair_store.specs.declared.outcome.Tas.TheVariants.{Set, Taken}
 use Rattle.store_model.specs.Found.{LaidStore, laid, found}
-use Rattle.store_model.specs.Changes.{Rewrites, with_commit, without_members, Outstanding}
+use Rattle.store_model.specs.Changes.{Rewrites, with_commit, without_members}
 use Rattle.store_model.proofs.Steps.{Content, InRange}
 use Rattle.store_model.proofs.Edits.{some_is, none_some}
 use Rattle.store_model.proofs.PageBytes.{rewrites_commit, rewrites_members}
@@ -22,11 +22,11 @@ use Rattle.store_model.proofs.SettingLinks.{linking_keeps}
 use Rattle.store_model.proofs.Clearing.{clearing_keeps}
 use Rattle.store_check.specs.declared.chain.Chain.{Chain}
 use Rattle.store_check.specs.Files.{chains_of}
-use Rattle.recovery.specs.Opening.{NoWriteFailed, refused_call}
+use Rattle.recovery.specs.Opening.{refused_call}
 use Rattle.recovery.specs.Rolling.{Stands, RollingLinks, RollingTops, IsHalfFailed}
 use Rattle.recovery.proofs.Rolls.{PageAt}
-use Rattle.recovery.proofs.Links.{laid_again, LinkPage, link_page, LinkAt, link_at, link_on, set_found}
-use Rattle.recovery.proofs.Tops.{TopPage, top_page, TopAt, top_at, top_on, clear_found}
+use Rattle.recovery.proofs.Links.{laid_again, LinkPage, link_page, LinkAt, link_at, link_on}
+use Rattle.recovery.proofs.Tops.{TopPage, top_page, TopAt, top_at, top_on}
 
 abbrev more_stands : (most : ℕ) (before : LaidStore) (places : List ℕ) (c : Content) (s t : ℕ → Type 0) → ((n : ℕ) → s n → t n) → Stands c s most before places → Stands c t most before places
 more_stands most before places c s t to r =
@@ -102,12 +102,9 @@ module _ (c : Content) (s : ℕ → Type 0) (most : ℕ) (before : LaidStore) (p
     pub link_written : (d : Content) (t : ℕ → Type 0) → d base ≡ Some (commit_bytes next body) → SameOthers base c d → ((n : ℕ) → s n → t n) → RollingLinks d t most before places (k + 1)
     link_written d t is others settles = link_on c d s t most before places k base next r the_link (link_rewrites c d holds is others) settles
 
-    pub link_found : (d : Content) → d base ≡ Some (commit_bytes next body) → SameOthers base c d → found d most ≡ found c most
-    link_found d is others = set_found c d s s most before places k base next r the_link (link_rewrites c d holds is others) (λ n h. h)
-
-    -- what a crash leaves is found as before
-    pub link_images : (x y : Content) → ((n : ℕ) → s n → x n ≡ c n) → OldOrNew base (commit_bytes next body) x y → found y most ≡ found x most
-    link_images x y same change =
+    -- what is found stays, with the old bytes and with the new ones
+    pub link_either : (x y : Content) → ((n : ℕ) → s n → x n ≡ c n) → OldOrNew base (commit_bytes next body) x y → found y most ≡ found x most
+    link_either x y same change =
         elim change.here [
           | inl old ↦ ap (λ f. found f most) (all_same x y base change.others old)
           | inr new ↦
@@ -139,19 +136,6 @@ set_or_failed c n body page (Err (BadPage m why)) holds reads nil (at, (b, here,
   where
     never : Err why ≡ Ok page → ⊥
     never e = cc
-
--- a call that was refused before its write wrote nothing
-pub left_alone : (fault : PairFault) → NoWriteFailed (refused_call fault) → LeftAlone (Err fault)
-left_alone (Unread h) untorn = tt
-left_alone (Unwritten h) untorn = absurd untorn
-left_alone (BothClosed m) untorn = tt
-left_alone (BadPage m why) untorn = tt
-
-pub refused_before : (T : Type 0) (fault : PairFault) → NoWriteFailed (refused_call fault) → IsRefused (let q : Result T PairFault = Err fault in q)
-refused_before T (Unread h) untorn = tt
-refused_before T (Unwritten h) untorn = absurd untorn
-refused_before T (BothClosed m) untorn = tt
-refused_before T (BadPage m why) untorn = tt
 
 -- ---- clearing members
 
@@ -189,11 +173,8 @@ module _ (c : Content) (s : ℕ → Type 0) (most : ℕ) (before : LaidStore) (p
     pub top_written : (d : Content) (t : ℕ → Type 0) → d base ≡ Some (cleared_bytes body) → SameOthers base c d → ((n : ℕ) → s n → t n) → RollingTops d t most before places (k + 1)
     top_written d t is others settles = top_on c d s t most before places k base r the_top (top_rewrites c d holds is others) settles
 
-    pub top_found : (d : Content) → d base ≡ Some (cleared_bytes body) → SameOthers base c d → found d most ≡ found c most
-    top_found d is others = clear_found c d s s most before places k base r the_top (top_rewrites c d holds is others) (λ n h. h)
-
-    pub top_images : (x y : Content) → ((n : ℕ) → s n → x n ≡ c n) → OldOrNew base (cleared_bytes body) x y → found y most ≡ found x most
-    top_images x y same change =
+    pub top_either : (x y : Content) → ((n : ℕ) → s n → x n ≡ c n) → OldOrNew base (cleared_bytes body) x y → found y most ≡ found x most
+    top_either x y same change =
         elim change.here [
           | inl old ↦ ap (λ f. found f most) (all_same x y base change.others old)
           | inr new ↦

@@ -1,7 +1,6 @@
 -- What is known of a store once it was checked, and before a link is set.
 use Rattle.std.specs.Prelude.{◌≡◌, ℕ, List, map, length, Option, option_map, Result, Ok, Err}
 use Rattle.version_chain.specs.declared.head.Head.{Head}
-use Rattle.store_model.specs.Walk.{Refused}
 use Rattle.store_model.specs.Found.{LaidStore}
 use Rattle.store_check.specs.declared.chain.Chain.{Chain}
 use Rattle.store_check.specs.Checked.{LikeTable}

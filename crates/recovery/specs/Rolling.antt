@@ -1,5 +1,5 @@
 -- Setting the links that a commit left outstanding, and clearing members after that: what stands meanwhile.
-use Rattle.std.specs.Prelude.{◌≡◌, ℕ, ◌+◌, ◌<◌, ◌≤◌, true, nat_eq, List, [], map, length, Option, Some, option_map, Result, Ok, Err, OnOk, IfErr, IsErrOf, slice_get}
+use Rattle.std.specs.Prelude.{◌≡◌, ℕ, ◌<◌, ◌≤◌, true, nat_eq, List, [], map, Option, Some, option_map, Result, Ok, OnOk, IfErr, IsErrOf, slice_get}
 use Rattle.std.specs.List.{list_any}
 use Rattle.drives.specs.declared.device.Half.{Half}
 use Rattle.drives.specs.Changes.{Changes}

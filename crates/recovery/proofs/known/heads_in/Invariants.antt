@@ -1,4 +1,4 @@
-use Rattle.std.proofs.Common.{◌≡◌, ◌<◌, ℕ, List, Option, Some, length, slice_get}
+use Rattle.std.proofs.Common.{◌≡◌, ◌<◌, ℕ, Some, length, slice_get}
 use Rattle.version_chain.specs.declared.head.Head.{Head}
 use Rattle.recovery.specs.Known.{heads_from}
 use Rattle.recovery.proofs.known.heads_in.Given as goal

@@ -1,6 +1,6 @@
-use Rattle.std.proofs.Common.{◌≡◌, ℕ, ◌<◌, ◌≤◌, [], List, Option, Some, Result, Ok, Err, length, refl, sym, ap, subst, ◌∙◌, arith, slice_get, map}
+use Rattle.std.proofs.Common.{◌≡◌, [], List, Option, Result, Ok, Err, length, sym, ap, subst, ◌∙◌, arith, slice_get}
 use Rattle.store_model.specs.Laid.{LaidFile}
-use Rattle.store_model.specs.Found.{LaidStore, laid}
+use Rattle.store_model.specs.Found.{laid}
 use Rattle.store_check.specs.declared.chain.Chain.{Chain}
 use Rattle.store_check.specs.declared.checking.Checked.{Checked}
 use Rattle.store_check.specs.Checked.{Answers, LikeTable}

@@ -1,38 +1,19 @@
-use Rattle.std.proofs.Common.{◌≡◌, ◌⊎◌, inl, inr, ℕ, ◌<◌, ◌≤◌, List, Option, Some, None, Result, Ok, Err, length, refl, sym, ap, subst, ◌∙◌, arith}
+use Rattle.std.proofs.Common.{◌≡◌, inl, inr, ℕ, ◌<◌, ◌≤◌, None, Result, Err, length, sym, ap, subst, ◌∙◌}
 use Rattle.std.specs.Prelude.{IfOk, IfErr}
-use Rattle.drives.specs.declared.device.Half.{Half}
 use Rattle.drives.specs.Changes.{Changes, IsAtRest, halves_seen}
 use Rattle.pair_store.specs.declared.fault.PairFault.{PairFault}
 use Rattle.pair_store.specs.Content.{ContentsLeft, IsSettled, IsSettledAlways, content_of}
 use Rattle.store_model.specs.Found.{found}
 use Rattle.recovery.specs.declared.opened.Opened.{Opened}
 use Rattle.recovery.specs.declared.opened.Unopened.{Unopened}
-use Rattle.recovery.specs.declared.refused.OpenRefused.{OpenRefused}
 use Rattle.recovery.specs.declared.refused.OpenRefused.TheVariants.{ReadFault, WriteFault}
-use Rattle.recovery.specs.Opening.{IsBad, IsFailed, IsNoStore, IsOpened, IsUntorn, SameFound, drives_of, pair_result, refused_call, store_of}
+use Rattle.recovery.specs.Opening.{IsBad, IsFailed, IsNoStore, IsOpened, SameFound, drives_of, store_of}
 use Rattle.recovery.proofs.Rolls.{fault_read, stopped_failed, unread_failed}
-use Rattle.recovery.proofs.PairOpenings.{no_content, drives_same, untorn_pair, bad_pair, failed_pair, mended_always, halves_change, pair_found, pair_same, mend_images, pair_images, opened_pair, settled_pair, always_pair}
+use Rattle.recovery.proofs.PairOpenings.{no_content, drives_same, bad_pair, failed_pair, mended_always, halves_change, pair_found, pair_same, mend_images, pair_images, opened_pair, settled_pair, always_pair}
 use Rattle.recovery.proofs.opening.open.Goals as goal
 
 pub returns-in-Ok-clause-same : goal.returns-in-Ok-clause-same
-returns-in-Ok-clause-same g c = λ told rest.
-    let v = g.V.Drives in
-    let start = c.over-pair.result in
-    let mid = c.mend_all.new.pair in
-    let r = c.open_over.result in
-    let since = c.now-since.result in
-    let begins : start.drives ≡ c.args.drives = c.over-pair.ensures.drives in
-    let e = c.open_over.ensures in
-    let mended = c.mend_all.ensures.mended in
-    let ends : (store_of r).drives ≡ drives_of c.on_halves.result = sym (ap (λ o. drives_of o) c.on_halves.ensures ∙ drives_same r since) in
-    let at_rest : IsAtRest v.seen v.moment v.may_leave start.drives = subst (λ (d : g.row.V.Denot). IsAtRest v.seen v.moment v.may_leave d) (sym begins) rest in
-    let always = mended_always v.tells v.size v.moment v.seen v.may_leave v.faults v.last_fault mid.drives (c.in-Ok.ensures.rest told at_rest) (c.in-Ok.ensures.settles told) in
-    subst (λ (d : g.row.V.Denot). SameFound (v.size c.args.drives) (content_of (halves_seen v.seen c.args.drives)) (content_of (halves_seen v.seen d))) ends
-    (subst (λ (d : g.row.V.Denot). SameFound (v.size d) (content_of (halves_seen v.seen d)) (content_of (halves_seen v.seen (store_of r).drives))) begins
-    (pair_same v.tells v.size v.moment v.seen v.may_leave v.faults v.last_fault start mid mended (store_of r).drives told (e.same told always)))
-
-pub returns-in-Ok-clause-same_untorn : goal.returns-in-Ok-clause-same_untorn
-returns-in-Ok-clause-same_untorn g c = λ told untorn.
+returns-in-Ok-clause-same g c = λ told.
     let v = g.V.Drives in
     let start = c.over-pair.result in
     let mid = c.mend_all.new.pair in
@@ -44,7 +25,7 @@ returns-in-Ok-clause-same_untorn g c = λ told untorn.
     let ends : (store_of r).drives ≡ drives_of c.on_halves.result = sym (ap (λ o. drives_of o) c.on_halves.ensures ∙ drives_same r since) in
     subst (λ (d : g.row.V.Denot). SameFound (v.size c.args.drives) (content_of (halves_seen v.seen c.args.drives)) (content_of (halves_seen v.seen d))) ends
     (subst (λ (d : g.row.V.Denot). SameFound (v.size d) (content_of (halves_seen v.seen d)) (content_of (halves_seen v.seen (store_of r).drives))) begins
-    (pair_same v.tells v.size v.moment v.seen v.may_leave v.faults v.last_fault start mid mended (store_of r).drives told (e.same_untorn told (c.in-Ok.ensures.settles told) (untorn_pair r since (subst (λ (o : Result (Opened g.row.V.Denot) (Unopened g.row.V.Denot)). IsUntorn o) c.on_halves.ensures untorn)))))
+    (pair_same v.tells v.size v.moment v.seen v.may_leave v.faults v.last_fault start mid mended (store_of r).drives told (e.same told (c.in-Ok.ensures.settles told))))
 
 pub returns-in-Ok-clause-images : goal.returns-in-Ok-clause-images
 returns-in-Ok-clause-images g c = λ told rest.

@@ -1,4 +1,4 @@
-use Rattle.std.proofs.Common.{◌≡◌, ℕ, List, Option, Result, Ok, Err, length, refl, sym, ap, subst, ◌∙◌}
+use Rattle.std.proofs.Common.{◌≡◌, ℕ, List, Option, Result, Ok, Err, length, sym, ap, subst, ◌∙◌}
 use Rattle.store_check.specs.declared.chain.Chain.{Chain}
 use Rattle.recovery.specs.declared.refused.OpenRefused.{OpenRefused}
 use Rattle.recovery.specs.Rolling.{Rolls, RollingLinks, RollingTops}

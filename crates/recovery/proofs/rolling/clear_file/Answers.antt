@@ -1,7 +1,7 @@
-use Rattle.std.proofs.Common.{◌≡◌, ℕ, ◌+◌, Some, None, List, Option, Result, Ok, Err, length, refl, sym, ap, subst, ◌∙◌, arith, eqb-true, eq-eqb, true≢false}
+use Rattle.std.proofs.Common.{◌≡◌, ◌+◌, Some, length, refl, sym, ap, ◌∙◌, eqb-true, eq-eqb, true≢false}
 use Rattle.store_check.specs.declared.chain.Chain.{Chain}
 use Rattle.store_model.proofs.Edits.{some_is, none_some}
-use Rattle.recovery.specs.Rolling.{Never, Rolls, RollingTops}
+use Rattle.recovery.specs.Rolling.{Never, RollingTops}
 use Rattle.recovery.proofs.Tops.{top_none}
 use Rattle.recovery.proofs.Rolls.{rolls_stay}
 use Rattle.recovery.proofs.rolling.clear_file.Goals as goal

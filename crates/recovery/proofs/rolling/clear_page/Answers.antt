@@ -1,18 +1,15 @@
-use Rattle.std.proofs.Common.{◌≡◌, ◌⊎◌, ◌≢◌, inl, inr, ℕ, ◌+◌, ◌<◌, ◌^◌, Some, None, List, Result, Ok, Err, refl, sym, ap, subst, ◌∙◌, arith}
+use Rattle.std.proofs.Common.{◌≡◌, inl, ℕ, ◌+◌, List, Result, Ok, Err, sym, ap, subst, ◌∙◌}
+use Rattle.std.proofs.Math.Path.{fun_ext}
 use Rattle.std.proofs.lemmas.Result.{err_from_is_err_and}
 use Rattle.page_codec.proofs.FrameLaws.{IsBlock}
 use Rattle.pair_store.specs.declared.fault.PairFault.{PairFault}
-use Rattle.pair_store.specs.declared.fault.PairFault.TheVariants.{ReadFault, WriteFault, BothClosed, BadPage}
-use Rattle.store_check.specs.declared.chain.Chain.{Chain}
-use Rattle.store_check.specs.Files.{chains_of}
-use Rattle.store_model.specs.Found.{LaidStore}
+use Rattle.store_model.specs.Found.{found}
 use Rattle.recovery.specs.declared.refused.OpenRefused.{OpenRefused}
-use Rattle.recovery.specs.Opening.{SameFound, refused_call}
-use Rattle.recovery.specs.Rolling.{Never, Rolls, RollingTops, IsHalfFailed}
-use Rattle.recovery.proofs.Rolls.{PageAt, never_ok, never_failed, rolls_failed, rolls_on, rolls_read, wrote_images, rolls_wrote, read_images, read_fails, never_written}
-use Rattle.pair_store.specs.Answers.{IsRefused}
+use Rattle.recovery.specs.Opening.{refused_call}
+use Rattle.recovery.specs.Rolling.{Never, Rolls, RollingTops}
+use Rattle.recovery.proofs.Rolls.{never_ok, never_failed, rolls_failed, rolls_on, rolls_read, rolls_torn, rolls_wrote, read_images, read_fails, never_written}
 use Rattle.pair_store.specs.Pages.{without_members}
-use Rattle.recovery.proofs.Writes.{top_body, top_images, top_written, top_found, more_tops, cleared_or_failed, refused_before}
+use Rattle.recovery.proofs.Writes.{top_body, top_either, top_written, more_tops, cleared_or_failed}
 use Rattle.recovery.proofs.Commits.{TopsRead, more_tops_read, settles_all}
 use Rattle.recovery.proofs.rolling.clear_page.Goals as goal
 
@@ -33,7 +30,7 @@ returns-in_err-read-clause-rolls g c = λ most before places k chain kept last s
     (λ told from.
     let page = top_body (b.content c.args.store.now) (b.settled c.args.store.now) most before places k chain c.args.block from kept last some in
     read_fails fault c.args.block (b.content c.args.store.now) page.body c.in_err-read.ensures.only page.holds (λ e. c.read.ensures.closed told (c.in_err-read.was ∙ ap Err e)))
-    (λ told from untorn. c.read.ensures.same told)
+    (λ told from. ap (λ x. found x most) (fun_ext (c.read.ensures.same told)))
     (λ told from. read_images b.moment b.may_leave most c.args.store.now c.read.new.self c.read.ensures.images)
     (λ h e. c.read.ensures.unread h (c.in_err-read.was ∙ ap Err e))
     (λ h e. never_written fault c.args.block h c.in_err-read.ensures.only e)
@@ -66,22 +63,20 @@ returns-in_err-clear_members-clause-rolls g c = λ most before places k chain ke
     (λ told n. g.met.B.Blocks.settled_now old n told)
     c.in_ok-read.ensures.given
     c.read.ensures.same c.read.ensures.kept c.read.ensures.kept_always c.read.ensures.images c.read.ensures.later c.read.ensures.size)
-    (rolls_failed b.tells b.size b.moment b.content b.may_leave b.settled b.settled_always b.faults b.last_fault most
-    (TopsRead most before places k c.args.block block) (λ c s. RollingTops c s most before places (k + 1))
-    c.args.block fault mid new
+    (rolls_torn b.tells b.size b.moment b.content b.may_leave b.settled b.settled_always b.faults b.last_fault most
+    (TopsRead most before places k c.args.block block) (λ c s. RollingTops c s most before places (k + 1)) c.args.block (without_members block) mid new
+    (λ d s t. more_tops_read most before places k c.args.block block d s t)
+    (λ d s from. (top_body d s most before places k chain c.args.block from.0 kept last some).settled)
+    (λ d x y s from same change. top_either d s most before places k chain c.args.block from.0 kept last some block whole from.1 x y same change)
+    (λ told n f s may. g.met.B.Blocks.settled_left mid n f told s may)
+    (λ told from s. e.images told s block from.1)
+    (λ told from s. e.either told s block from.1)
+    fault
     (λ told from. top_body (b.content mid) (b.settled mid) most before places k chain c.args.block from.0 kept last some)
     (λ told from.
     let page = top_body (b.content mid) (b.settled mid) most before places k chain c.args.block from.0 kept last some in
     cleared_or_failed (Unit {0}) (b.content mid) c.args.block page.body page.page (Err fault) page.holds page.reads
     (c.in_err-clear_members.ensures.answer told page.settled))
-    (λ told from untorn. e.unwritten told (subst IsRefused (sym c.in_err-clear_members.was) (refused_before (Unit {0}) fault untorn)))
-    (wrote_images b.tells b.size b.moment b.content b.may_leave b.settled b.settled_always b.faults b.last_fault most
-    (TopsRead most before places k c.args.block block) (λ c s. RollingTops c s most before places (k + 1)) c.args.block (without_members block) mid new
-    (λ d s t. more_tops_read most before places k c.args.block block d s t)
-    (λ d s from. (top_body d s most before places k chain c.args.block from.0 kept last some).settled)
-    (λ d x y s from same change. top_images d s most before places k chain c.args.block from.0 kept last some block whole from.1 x y same change)
-    (λ told n f s may. g.met.B.Blocks.settled_left mid n f told s may)
-    (λ told from s. e.images told s block from.1))
     (λ h same. e.unread h (c.in_err-clear_members.was ∙ ap Err same))
     (λ h same. e.stopped h (c.in_err-clear_members.was ∙ ap Err same))
     e.later e.size))
@@ -109,9 +104,10 @@ returns-clause-rolls g c = λ most before places k chain kept last some.
     (TopsRead most before places k c.args.block block) (λ c s. RollingTops c s most before places (k + 1)) c.args.block (without_members block) mid new
     (λ d s t. more_tops_read most before places k c.args.block block d s t)
     (λ d s from. (top_body d s most before places k chain c.args.block from.0 kept last some).settled)
-    (λ d x y s from same change. top_images d s most before places k chain c.args.block from.0 kept last some block whole from.1 x y same change)
+    (λ d x y s from same change. top_either d s most before places k chain c.args.block from.0 kept last some block whole from.1 x y same change)
     (λ told n f s may. g.met.B.Blocks.settled_left mid n f told s may)
     (λ told from s. e.images told s block from.1)
+    (λ told from s. e.either told s block from.1)
     tt
     (λ told from.
     let page = top_body (b.content mid) (b.settled mid) most before places k chain c.args.block from.0 kept last some in
@@ -121,7 +117,6 @@ returns-clause-rolls g c = λ most before places k chain kept last some.
     (λ told. settles_all (b.settled_always mid) (b.settled_always new) c.args.block (c.in_ok-clear_members.ensures.settles_always told) (λ n off. c.in_ok-clear_members.ensures.kept_always tt n (inl off)))
     (λ told n. g.met.B.Blocks.settled_now mid n told)
     (λ x y s t from is others settles. top_written x s most before places k chain c.args.block from.0 kept last some block whole from.1 y t is others settles)
-    (λ x y s from is others. top_found x s most before places k chain c.args.block from.0 kept last some block whole from.1 y is others)
     e.later e.size)
 
 pub returns-in_err-read-clause-fails : goal.returns-in_err-read-clause-fails

@@ -1,7 +1,6 @@
 use Rattle.std.proofs.Common.{◌≡◌, ◌≤◌, ℕ, List, Ok}
 use Rattle.store_check.specs.Files.{chains_of}
 use Rattle.store_model.specs.Found.{LaidStore}
-use Rattle.recovery.specs.declared.refused.OpenRefused.{OpenRefused}
 use Rattle.recovery.specs.Rolling.{Never, Rolls, RollingTops}
 use Rattle.recovery.proofs.rolling.clear_tops.Given as goal
 

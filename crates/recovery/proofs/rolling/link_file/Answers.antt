@@ -1,7 +1,7 @@
-use Rattle.std.proofs.Common.{◌≡◌, ℕ, ◌+◌, Some, None, List, Option, Result, Ok, Err, refl, sym, ap, subst, ◌∙◌, arith}
+use Rattle.std.proofs.Common.{◌+◌, Some, refl, ap, ◌∙◌}
 use Rattle.std.specs.Option.{option_and_then}
 use Rattle.store_check.specs.declared.chain.Chain.{Chain}
-use Rattle.recovery.specs.Rolling.{Never, Rolls, RollingLinks}
+use Rattle.recovery.specs.Rolling.{Never, RollingLinks}
 use Rattle.recovery.proofs.Links.{link_none}
 use Rattle.recovery.proofs.Rolls.{rolls_stay}
 use Rattle.recovery.proofs.rolling.link_file.Goals as goal

@@ -1,19 +1,17 @@
-use Rattle.std.proofs.Common.{◌≡◌, ◌⊎◌, ◌≢◌, inl, inr, ℕ, ◌+◌, ◌<◌, ◌^◌, Some, None, List, Result, Ok, Err, refl, sym, ap, subst, ◌∙◌, arith}
+use Rattle.std.proofs.Common.{◌≡◌, ℕ, ◌+◌, List, Result, Ok, Err, sym, ap, subst, ◌∙◌}
+use Rattle.std.proofs.Math.Path.{fun_ext}
 use Rattle.std.proofs.lemmas.Result.{err_from_is_err_and}
 use Rattle.page_codec.proofs.FrameLaws.{IsBlock}
 use Rattle.pair_store.specs.declared.fault.PairFault.{PairFault}
-use Rattle.pair_store.specs.declared.fault.PairFault.TheVariants.{ReadFault, WriteFault, BothClosed, BadPage}
-use Rattle.store_check.specs.declared.chain.Chain.{Chain}
-use Rattle.store_check.specs.Files.{chains_of}
-use Rattle.store_model.specs.Found.{LaidStore}
+use Rattle.store_model.specs.Found.{found}
 use Rattle.recovery.specs.declared.refused.OpenRefused.{OpenRefused}
-use Rattle.recovery.specs.Opening.{SameFound, refused_call}
-use Rattle.recovery.specs.Rolling.{Never, Rolls, RollingLinks, IsHalfFailed}
-use Rattle.recovery.proofs.Rolls.{PageAt, never_ok, never_failed, rolls_failed, rolls_on, rolls_read, wrote_images, rolls_wrote, read_images, read_fails, never_written}
+use Rattle.recovery.specs.Opening.{refused_call}
+use Rattle.recovery.specs.Rolling.{Never, Rolls, RollingLinks}
+use Rattle.recovery.proofs.Rolls.{never_ok, never_failed, rolls_failed, rolls_on, rolls_read, rolls_torn, rolls_wrote, read_images, read_fails, never_written}
 use Rattle.pair_store.specs.declared.outcome.Tas.{Tas}
-use Rattle.pair_store.specs.Answers.{LeftAlone, IsSet}
+use Rattle.pair_store.specs.Answers.{IsSet}
 use Rattle.pair_store.specs.Pages.{with_commit}
-use Rattle.recovery.proofs.Writes.{link_body, link_nil, link_images, link_written, link_found, more_links, set_or_failed, left_alone}
+use Rattle.recovery.proofs.Writes.{link_body, link_nil, link_either, link_written, more_links, set_or_failed}
 use Rattle.recovery.proofs.Commits.{LinksRead, more_links_read, is_set, tas_settles}
 use Rattle.recovery.proofs.rolling.set_commit.Goals as goal
 
@@ -34,7 +32,7 @@ returns-in_err-read-clause-rolls g c = λ most before places k chain kept unset 
     (λ told from.
     let page = link_body (b.content c.args.store.now) (b.settled c.args.store.now) most before places k chain c.args.base c.args.next from kept unset last in
     read_fails fault c.args.base (b.content c.args.store.now) page.body c.in_err-read.ensures.only page.holds (λ e. c.read.ensures.closed told (c.in_err-read.was ∙ ap Err e)))
-    (λ told from untorn. c.read.ensures.same told)
+    (λ told from. ap (λ x. found x most) (fun_ext (c.read.ensures.same told)))
     (λ told from. read_images b.moment b.may_leave most c.args.store.now c.read.new.self c.read.ensures.images)
     (λ h e. c.read.ensures.unread h (c.in_err-read.was ∙ ap Err e))
     (λ h e. never_written fault c.args.base h c.in_err-read.ensures.only e)
@@ -67,23 +65,21 @@ returns-in_err-test_and_set-clause-rolls g c = λ most before places k chain kep
     (λ told n. g.met.B.Blocks.settled_now old n told)
     c.in_ok-read.ensures.given
     c.read.ensures.same c.read.ensures.kept c.read.ensures.kept_always c.read.ensures.images c.read.ensures.later c.read.ensures.size)
-    (rolls_failed b.tells b.size b.moment b.content b.may_leave b.settled b.settled_always b.faults b.last_fault most
-    (LinksRead most before places k c.args.base block) (λ c s. RollingLinks c s most before places (k + 1))
-    c.args.base fault mid new
+    (rolls_torn b.tells b.size b.moment b.content b.may_leave b.settled b.settled_always b.faults b.last_fault most
+    (LinksRead most before places k c.args.base block) (λ c s. RollingLinks c s most before places (k + 1)) c.args.base (with_commit c.args.next block) mid new
+    (λ d s t. more_links_read most before places k c.args.base block d s t)
+    (λ d s from. (link_body d s most before places k chain c.args.base c.args.next from.0 kept unset last).settled)
+    (λ d x y s from same change. link_either d s most before places k chain c.args.base c.args.next from.0 kept unset last block whole from.1 c.requires.word x y same change)
+    (λ told n f s may. g.met.B.Blocks.settled_left mid n f told s may)
+    (λ told from s. e.images told s block from.1)
+    (λ told from s. e.either told s block from.1)
+    fault
     (λ told from. link_body (b.content mid) (b.settled mid) most before places k chain c.args.base c.args.next from.0 kept unset last)
     (λ told from.
     let page = link_body (b.content mid) (b.settled mid) most before places k chain c.args.base c.args.next from.0 kept unset last in
     set_or_failed (b.content mid) c.args.base page.body page.page (Err fault) page.holds page.reads
     (link_nil (b.content mid) (b.settled mid) most before places k chain c.args.base c.args.next from.0 kept unset last)
     (c.in_err-test_and_set.ensures.answer told page.settled))
-    (λ told from untorn. e.unwritten told (subst LeftAlone (sym c.in_err-test_and_set.was) (left_alone fault untorn)))
-    (wrote_images b.tells b.size b.moment b.content b.may_leave b.settled b.settled_always b.faults b.last_fault most
-    (LinksRead most before places k c.args.base block) (λ c s. RollingLinks c s most before places (k + 1)) c.args.base (with_commit c.args.next block) mid new
-    (λ d s t. more_links_read most before places k c.args.base block d s t)
-    (λ d s from. (link_body d s most before places k chain c.args.base c.args.next from.0 kept unset last).settled)
-    (λ d x y s from same change. link_images d s most before places k chain c.args.base c.args.next from.0 kept unset last block whole from.1 c.requires.word x y same change)
-    (λ told n f s may. g.met.B.Blocks.settled_left mid n f told s may)
-    (λ told from s. e.images told s block from.1))
     (λ h same. e.unread h (c.in_err-test_and_set.was ∙ ap Err same))
     (λ h same. e.stopped h (c.in_err-test_and_set.was ∙ ap Err same))
     e.later e.size))
@@ -118,9 +114,10 @@ returns-clause-rolls g c = λ most before places k chain kept unset last.
     (LinksRead most before places k c.args.base block) (λ c s. RollingLinks c s most before places (k + 1)) c.args.base (with_commit c.args.next block) mid new
     (λ d s t. more_links_read most before places k c.args.base block d s t)
     (λ d s from. (link_body d s most before places k chain c.args.base c.args.next from.0 kept unset last).settled)
-    (λ d x y s from same change. link_images d s most before places k chain c.args.base c.args.next from.0 kept unset last block whole from.1 c.requires.word x y same change)
+    (λ d x y s from same change. link_either d s most before places k chain c.args.base c.args.next from.0 kept unset last block whole from.1 c.requires.word x y same change)
     (λ told n f s may. g.met.B.Blocks.settled_left mid n f told s may)
     (λ told from s. e.images told s block from.1)
+    (λ told from s. e.either told s block from.1)
     tt
     (λ told from.
     let page = link_body (b.content mid) (b.settled mid) most before places k chain c.args.base c.args.next from.0 kept unset last in
@@ -130,7 +127,6 @@ returns-clause-rolls g c = λ most before places k chain kept unset last.
     (λ told. tas_settles tas (b.settled_always mid) (b.settled_always new) c.args.base (c.in_ok-test_and_set.ensures.settles_always told) (c.in_ok-test_and_set.ensures.kept_always tt))
     (λ told n. g.met.B.Blocks.settled_now mid n told)
     (λ x y s t from is others settles. link_written x s most before places k chain c.args.base c.args.next from.0 kept unset last block whole from.1 c.requires.word y t is others settles)
-    (λ x y s from is others. link_found x s most before places k chain c.args.base c.args.next from.0 kept unset last block whole from.1 c.requires.word y is others)
     e.later e.size)
 
 pub returns-in_err-read-clause-fails : goal.returns-in_err-read-clause-fails

@@ -1,8 +1,6 @@
-use Rattle.std.proofs.Common.{◌≡◌, ◌≤◌, ◌<◌, ℕ, ◌+◌, Some, None, List, Option, Result, Ok, Err, length, refl, sym, ap, subst, ◌∙◌, arith, slice_get}
+use Rattle.std.proofs.Common.{◌≡◌, ◌≤◌, ℕ, ◌+◌, Some, Result, Ok, Err, length, sym, ap, subst, ◌∙◌, arith, slice_get}
 use Rattle.std.proofs.lemmas.Result.{err_from_is_err_and}
-use Rattle.store_check.specs.declared.chain.Chain.{Chain}
 use Rattle.store_check.specs.Files.{chains_of}
-use Rattle.store_model.specs.Found.{LaidStore}
 use Rattle.recovery.specs.declared.refused.OpenRefused.{OpenRefused}
 use Rattle.recovery.specs.Rolling.{Never, Rolls, RollingLinks}
 use Rattle.recovery.proofs.Heads.{get_is}
