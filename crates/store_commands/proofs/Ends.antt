@@ -8,13 +8,12 @@ use Rattle.version_chain.specs.declared.head.Head.{Head}
 use Rattle.tree_model.specs.States.{State}
 use Rattle.store_model.specs.Walk.{Refused}
 use Rattle.store_model.specs.Found.{found, state_in, state_of}
-use Rattle.recovery.specs.Opening.{IsBad, IsFailed, IsOpened, NoWriteFailed, heads_of}
+use Rattle.recovery.specs.Opening.{IsBad, IsFailed, IsOpened, heads_of}
 use Rattle.recovery.specs.declared.refused.OpenRefused.{OpenRefused}
 use Rattle.recovery.specs.declared.refused.OpenRefused.TheVariants.{ReadFault, WriteFault, BadStore as Unlawful, Memory as NoMemory}
 use Rattle.caps.specs.Tables.{seal_of}
 use Rattle.endings.specs.Commands.{CommandEnds}
 use Rattle.endings.specs.declared.status.Status.{Status}
-use Rattle.endings.specs.declared.status.Status.TheVariants.{DriveFault}
 use Rattle.endings.proofs.Commands.{command_drive, command_memory, command_refused, shown_state}
 use Rattle.store_commands.specs.Counting.{counted_text}
 use Rattle.store_commands.specs.Opening.{RefusedEnds}
@@ -62,14 +61,6 @@ refused_command tells before failed text old new sink_rose (Unlawful block why) 
     command_refused tells before failed text old new sink_rose (record { block = block; why = why }) status bad ends
 refused_command tells before failed text old new sink_rose NoMemory status unread unwritten bad ends =
     command_memory tells before failed text old new sink_rose status ends.0 ends.1
-
--- where no half is named, none failed in a write
-pub refused_untorn : (old new : Option (List ℕ)) (sink_rose : Type 0) (why : OpenRefused) (status : Status) → RefusedEnds old new sink_rose why status
-    → (status ≡ DriveFault → ⊥) → NoWriteFailed why
-refused_untorn old new sink_rose (ReadFault half) status ends other = tt
-refused_untorn old new sink_rose (WriteFault half) status ends other = other ends.0
-refused_untorn old new sink_rose (Unlawful block why) status ends other = tt
-refused_untorn old new sink_rose NoMemory status ends other = tt
 
 -- ---- a store that was opened
 

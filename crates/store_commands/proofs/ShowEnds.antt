@@ -3,7 +3,7 @@ use Rattle.std.proofs.Common.{◌≡◌, ◌⊎◌, inl, inr, ℕ, ◌+◌, ◌-
 use Rattle.std.proofs.lemmas.Bool.{eqb-false}
 use Rattle.drives.specs.declared.device.Half.{Half}
 use Rattle.drives.specs.declared.device.Half.TheVariants.{A, B}
-use Rattle.drives.specs.Changes.{Changes, IsAtRest, halves_seen}
+use Rattle.drives.specs.Changes.{Changes, halves_seen}
 use Rattle.drives.proofs.Composing.{goes_on, leaves_now}
 use Rattle.pair_store.specs.Blocks.{SameContents}
 use Rattle.pair_store.specs.Content.{ContentsLeft, content_of}
@@ -72,7 +72,7 @@ module _ {V : Type 0} (tells : Type 0) (size moment : V → ℕ) (seen : V → H
       → Changes moment (ContentsLeft may_leave) b c SameContents → ((h : Half) → (faults b h ≤ faults c h) × (last_fault b h ≤ last_fault c h)) → size c ≡ size b
       → OnlyOpened tells size moment seen may_leave faults last_fault a c
   read_opened a b c first same images later size_same = record {
-    same = λ told rest. found_on a b c (first.same told rest) (same told);
+    same = λ told. found_on a b c (first.same told) (same told);
     images = λ told rest.
         let R : (ℕ → Option (List ℕ)) → (ℕ → Option (List ℕ)) → Type 0 = SameFound (size a) in
         goes_on moment (ContentsLeft may_leave) a b c R R SameContents R (first.images told rest) (leaves_now moment (ContentsLeft may_leave) a b R (first.images told rest)) images

@@ -11,11 +11,11 @@ use Rattle.endings.specs.Texts.{bad_store_text, drive_text, memory_text}
 use Rattle.endings.specs.declared.status.Status.{Status}
 use Rattle.endings.specs.declared.status.Status.TheVariants.{DriveFault, BadStore, Memory}
 
--- From `before` to `after` a store was opened, or was to be. Where nothing was pending before, the files that are found stay the same, and so
--- they do in all that a crash may leave.
+-- From `before` to `after` a store was opened, or was to be. The files that are found stay the same, whatever was pending; and where nothing was
+-- pending before, so they do in all that a crash may leave.
 pub record OnlyOpened {V : Type 0} (tells : Type 0) (size moment : V → ℕ) (seen : V → Half → List ℕ) (may_leave : V → Half → ℕ → List ℕ → Type 0)
     (faults last_fault : V → Half → ℕ) (before after : V) : Type 0 where
-  pub same : tells → IsAtRest seen moment may_leave before → SameFound (size before) (content_of (halves_seen seen before)) (content_of (halves_seen seen after))
+  pub same : tells → SameFound (size before) (content_of (halves_seen seen before)) (content_of (halves_seen seen after))
   pub images : tells → IsAtRest seen moment may_leave before → Changes moment (ContentsLeft may_leave) before after (SameFound (size before))
   pub later : (h : Half) → (faults before h ≤ faults after h) × (last_fault before h ≤ last_fault after h)
   pub size_same : size after ≡ size before

@@ -5,7 +5,7 @@ ghost use Rattle.drives.specs.declared.device.Half.{Half};
 ghost use Rattle.drives.specs.Changes.{halves_seen};
 ghost use Rattle.pair_store.specs.Content.{content_of};
 ghost use Rattle.store_model.specs.Found.{found};
-ghost use Rattle.recovery.specs.Opening.{IsFailed, IsNoStore, SameFound};
+ghost use Rattle.recovery.specs.Opening.{IsFailed, IsNoStore};
 ghost use Rattle.endings.specs.Commands.{CommandEnds, NothingFailed};
 ghost use Rattle.endings.specs.Faults.{HalfFailed};
 ghost use Rattle.endings.specs.Noted.{IsNothingNoted};
@@ -49,9 +49,6 @@ pub fn afs_check<V: Drives, K: Sink>(alloc: Global, drives: V, out: &mut K) -> E
     ensures complete { V.tells → NothingFailed (found (content_of (halves_seen V.seen drives)) (V.size drives)) (λ h. HalfFailed V.moment V.faults h drives result.drives)
         (Rose (K.faults out.old) (K.faults out.new)) → IsDone result.status }
     ensures kept { OnlyOpened V.tells V.size V.moment V.seen V.may_leave V.faults V.last_fault drives result.drives }
-    // Whatever was pending, the files stay the same where no half failed.
-    ensures untorn { V.tells → (result.status ≡ Status.DriveFault → ⊥)
-        → SameFound (V.size drives) (content_of (halves_seen V.seen drives)) (content_of (halves_seen V.seen result.drives)) }
     ensures noted { IsNothingNoted result.journal }
     ensures sink_later { K.faults out.old ≤ K.faults out.new }
 {

@@ -24,7 +24,7 @@ returns-in-Ok-clause-ends g c =
     (V.tells → IsNoStore (content_of (halves_seen V.seen c.args.drives)) most) in
     let table = c.in-Ok.opened.table in
     let heads = c.in-Ok.opened.heads.items in
-    let same : V.tells → found content most ≡ before = λ told. c.in-Ok.ensures.same_untorn told tt in
+    let same : V.tells → found content most ≡ before = λ told. c.in-Ok.ensures.same told in
     let opened : V.tells → IsOpened content most table c.in-Ok.opened.map heads = λ told. c.in-Ok.ensures.opened told in
     command_finished V.tells before failed (cap_text c.args.object c.args.rights) (K.written c.args.out.now) (K.written c.end_minted-status.new.out) (Rose (K.faults c.args.out.now) (K.faults c.end_minted-status.new.out))
     (sealed_text c.args.object c.args.rights (seal_of table c.args.object)) c.end_minted-status.result

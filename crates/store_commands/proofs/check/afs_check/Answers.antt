@@ -26,7 +26,7 @@ returns-in-Ok-clause-ends g c =
     (V.tells → IsNoStore (content_of (halves_seen V.seen c.args.drives)) most) in
     let table = c.in-Ok.opened.table in
     let heads = c.in-Ok.opened.heads.items in
-    let same : V.tells → found content most ≡ before = λ told. c.in-Ok.ensures.same_untorn told tt in
+    let same : V.tells → found content most ≡ before = λ told. c.in-Ok.ensures.same told in
     let opened : V.tells → IsOpened content most table c.in-Ok.opened.map heads = λ told. c.in-Ok.ensures.opened told in
     let Ends : List (Option Head) → Type 0 = λ told. DoneEnds (K.written c.args.out.now) (K.written c.end_counted-status.new.out)
     (Rose (K.faults c.args.out.now) (K.faults c.end_counted-status.new.out)) (counted_text table told) c.end_counted-status.result in

@@ -47,7 +47,7 @@ returns-in-Ok-clause-ends g c =
     let same_size : V.size mid ≡ V.size start = c.in-Ok.ensures.size in
     let within : o.store.root.blocks ≤ V.size mid = omega (arith, fits, o.size, same_size) in (
       state_in o.store,
-      sym (c.in-Ok.ensures.same_untorn t tt) ∙ ap state_of o.laid,
+      sym (c.in-Ok.ensures.same t) ∙ ap state_of o.laid,
       (
         t,
         subst (λ (hs : List (Option Head)). AreObjects settled (V.size mid) (pages_of content) hs (map file_in o.store.files)) (sym (c.deref.ensures.value ∙ o.heads))
@@ -88,7 +88,7 @@ returns-in-Ok-clause-kept g c =
     record { later = only.images.later; last = only.images.last; stuck = only.images.stuck; past = only.images.past; own = only.images.own } in
     subst (λ d. OnlyOpened V.tells V.size V.moment V.seen V.may_leave V.faults V.last_fault c.args.drives d) (sym c.into_drives.ensures)
     (read_opened V.tells V.size V.moment V.seen V.may_leave V.faults V.last_fault c.args.drives c.in-Ok.opened.pair.drives c.end_shown-status.new.store.drives
-    (record { same = λ t rest. e.same t rest; images = λ t rest. e.images t rest; later = λ h. e.later h; size_same = e.size })
+    (record { same = λ t. e.same t; images = λ t rest. e.images t rest; later = λ h. e.later h; size_same = e.size })
     only.same images only.later only.size_same)
 
 pub returns-in-Err-clause-ends : goal.returns-in-Err-clause-ends
