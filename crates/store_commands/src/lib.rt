@@ -8,8 +8,6 @@ mod formatting;
 mod refused;
 mod show;
 mod showing;
-#[cfg(test)]
-mod tests;
 
 pub use cap::afs_cap;
 pub use check::afs_check;

@@ -1,5 +1,4 @@
 //! Whole commands on halves in memory, against the lines and the bytes that the formats ask for.
-use crate::*;
 use drives::{Half, MemDrives};
 use endings::Ended;
 use new_store::NewStore;
@@ -7,6 +6,7 @@ use script_text::MemSink;
 use std::alloc::{AllocError, Global};
 use std::process::Abort;
 use std::test::Fail;
+use store_commands::*;
 
 mod cases;
 mod crashes;
