@@ -1,5 +1,5 @@
 -- Each version of a store that is found lies in blocks that the table counts, and the blocks hold its tree.
-use Rattle.std.proofs.Common.{◌≡◌, ◌==◌, ℕ, zero, suc, ◌-◌, ◌<◌, Bool, true, false, cond, List, [], ◌∷◌, length, Option, Some, None, option_map, Ok, refl, sym, ap, subst, ◌∙◌, slice_get}
+use Rattle.std.proofs.Common.{◌≡◌, ◌==◌, ℕ, zero, suc, ◌-◌, ◌<◌, Bool, true, false, cond, List, [], ◌∷◌, length, Option, Some, None, option_map, Ok, refl, subst, ◌∙◌, slice_get}
 use Rattle.std.specs.List.{AllByRecursion}
 use Rattle.page_codec.specs.declared.why.Why.TheVariants.{Member}
 use Rattle.page_codec.specs.Values.{MemberValue}
@@ -8,7 +8,7 @@ use Rattle.store_model.specs.Walk.{Blocks}
 use Rattle.store_model.specs.Laid.{Node, LaidVersion, LaidFile, block_in, page_in, last_laid}
 use Rattle.store_model.specs.Chains.{version_at, chain_from, chain_at}
 use Rattle.store_model.specs.Tables.{Row, files_from}
-use Rattle.store_model.specs.Members.{Top, Linked, tops_from, last_in, with_version_at, version_linked, member_linked, members_linked, tops_linked}
+use Rattle.store_model.specs.Members.{Top, Linked, tops_from, last_in, version_linked, member_linked, members_linked, tops_linked}
 use Rattle.store_model.specs.Found.{LaidStore, laid_from, laid, version_in}
 use Rattle.store_model.specs.Laws.{pages_of}
 use Rattle.store_model.proofs.Giving.{Gives, gives_bind, gives_done, gives_refuse, gives_any, gives_if, gives_some}

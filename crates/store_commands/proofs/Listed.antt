@@ -1,16 +1,16 @@
 -- What is listed of the objects of a store that was opened is what its files show.
-use Rattle.std.proofs.Common.{◌≡◌, ℕ, zero, suc, ◌+◌, ◌-◌, ◌<◌, ◌≤◌, nat_lt, Bool, true, false, cond, List, [], ◌∷◌, ◌++◌, codes, length, map, take, Option, Some, None, option_map, Result, Ok, Err, OnOk, refl, sym, ap, subst, ◌∙◌, arith, get_or, add-one, append_assoc, append-nil}
+use Rattle.std.proofs.Common.{◌≡◌, ℕ, zero, suc, ◌+◌, ◌-◌, ◌<◌, ◌≤◌, nat_lt, true, cond, List, [], ◌∷◌, ◌++◌, codes, length, map, take, Option, Some, None, option_map, Result, Ok, Err, OnOk, refl, sym, ap, subst, ◌∙◌, arith, get_or, add-one, append_assoc, append-nil}
 use Rattle.std.specs.Fmt.{decimal}
-use Rattle.std.specs.List.{AllByRecursion, flat_map, range_with_len, slice_get}
+use Rattle.std.specs.List.{flat_map, range_with_len, slice_get}
 use Rattle.std.specs.Option.{option_and_then}
 use Rattle.std.proofs.lemmas.Grind.{flat_map-append}
 use Rattle.std.proofs.lemmas.Bool.Decides.{nat_tests}
-use Rattle.std.proofs.lemmas.List.{length-append, length-map}
+use Rattle.std.proofs.lemmas.List.{length-append}
 use Rattle.drives.specs.declared.device.Half.{Half}
 use Rattle.script_text.specs.ReplyText.{spaced}
 use Rattle.draft_model.specs.Places.{Store, Holds, block_at}
 use Rattle.tree_model.specs.Trees.{Tree}
-use Rattle.tree_model.specs.States.{File, Version, last_of, last_version, serials_of}
+use Rattle.tree_model.specs.States.{File, Version, last_version, serials_of}
 use Rattle.store_model.specs.Laid.{LaidVersion, LaidFile, last_laid}
 use Rattle.store_model.specs.Laws.{pages_of, page_of_block}
 use Rattle.store_model.specs.Found.{file_in, version_in}
@@ -21,7 +21,7 @@ use Rattle.store_check.specs.Files.{AllLie, FilesLie, kept_by}
 use Rattle.store_check.specs.Since.{OnlyRead}
 use Rattle.recovery.specs.Opening.{head_of, heads_of}
 use Rattle.tree_listing.specs.TreeText.{tree_text}
-use Rattle.tree_listing.specs.Listing.{AreReadable, EachBelow}
+use Rattle.tree_listing.specs.Listing.{AreReadable}
 use Rattle.tree_listing.specs.Results.{AppendsTree, Gives}
 use Rattle.tree_listing.specs.declared.refused.ListingRefused.{ListingRefused}
 use Rattle.version_chain.specs.declared.head.Head.{Head}

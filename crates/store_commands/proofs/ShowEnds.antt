@@ -1,8 +1,7 @@
 -- How `show` ends is put together.
-use Rattle.std.proofs.Common.{◌≡◌, ◌⊎◌, inl, inr, ℕ, ◌+◌, ◌-◌, ◌^◌, ◌≤◌, min, nat_eq, Bool, true, false, List, [], Option, None, Result, Ok, Err, refl, sym, ap, subst, ◌∙◌, eq-eqb, eqb-true, arith}
+use Rattle.std.proofs.Common.{◌≡◌, ◌⊎◌, inl, inr, ℕ, ◌+◌, ◌-◌, ◌^◌, ◌≤◌, min, nat_eq, Bool, true, false, List, Option, Result, Ok, refl, sym, ap, subst, ◌∙◌, eqb-true, arith}
 use Rattle.std.proofs.lemmas.Bool.{eqb-false}
 use Rattle.drives.specs.declared.device.Half.{Half}
-use Rattle.drives.specs.declared.device.Half.TheVariants.{A, B}
 use Rattle.drives.specs.Changes.{Changes, halves_seen}
 use Rattle.drives.proofs.Composing.{goes_on, leaves_now}
 use Rattle.pair_store.specs.Blocks.{SameContents}
@@ -21,7 +20,7 @@ use Rattle.tree_listing.specs.declared.refused.ListingRefused.TheVariants.{ReadF
 use Rattle.tree_listing.specs.Results.{IsNoCause}
 use Rattle.store_commands.specs.Opening.{OnlyOpened}
 use Rattle.store_commands.specs.Showing.{show_text}
-use Rattle.store_commands.specs.Shows.{ListsAll, ListsNot, ShowEnds, UnlistedEnds}
+use Rattle.store_commands.specs.Shows.{ListsAll, ShowEnds, UnlistedEnds}
 
 -- a half that failed in a read failed in the call; where contents are told it was the last call of a device
 pub fault_failed : (tells NoStore Empty : Type 0) (faults mid after last : Half → ℕ) (moment : ℕ) (h : Half) → faults h ≤ mid h → IsUnread mid after last moment Empty h

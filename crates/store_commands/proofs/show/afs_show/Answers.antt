@@ -5,13 +5,12 @@ use Rattle.drives.specs.Changes.{Changes, halves_seen}
 use Rattle.pair_store.specs.Blocks.{SameContents}
 use Rattle.pair_store.specs.Content.{ContentsLeft, IsSettled, content_of}
 use Rattle.pair_store.specs.Faults.{IsStopped}
-use Rattle.store_model.specs.Found.{LaidStore, file_in, found, state_in, state_of}
+use Rattle.store_model.specs.Found.{file_in, found, state_in, state_of}
 use Rattle.store_model.specs.Laws.{pages_of}
-use Rattle.store_model.specs.Walk.{Refused}
 use Rattle.store_check.specs.Since.{IsUnreadSince}
 use Rattle.tree_model.specs.States.{File, State}
 use Rattle.version_chain.specs.declared.head.Head.{Head}
-use Rattle.recovery.specs.Opening.{IsFailed, IsNoStore, IsOpened, heads_of}
+use Rattle.recovery.specs.Opening.{IsFailed, IsNoStore, IsOpened}
 use Rattle.endings.specs.Commands.{CommandEnds}
 use Rattle.endings.specs.Faults.{HalfFailed}
 use Rattle.endings.proofs.Commands.{command_done}

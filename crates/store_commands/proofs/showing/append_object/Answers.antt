@@ -1,4 +1,3 @@
-use Rattle.std.proofs.Common.{◌≡◌}
 use Rattle.store_check.proofs.ReadOnly.{none_read}
 use Rattle.store_commands.proofs.Listed.{lines_live, lines_none}
 use Rattle.store_commands.proofs.showing.append_object.Goals as goal
