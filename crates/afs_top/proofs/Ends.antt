@@ -85,14 +85,14 @@ none_doubt steps s doubt none =
     let D : Option Entry → Type 0 = λ d. IsDoubt steps s d in
     subst D (sym none) tt
 
-module _ (tells rest : Type 0) (before after : Result State Refused) (failed : Half → Type 0) (left : Option (List ℕ)) (source_rose : Type 0)
+module _ (tells : Type 0) (before after : Result State Refused) (failed : Half → Type 0) (left : Option (List ℕ)) (source_rose : Type 0)
     (old new : Option (List ℕ)) (sink_rose : Type 0) (journal : Journal) where
   -- a finished run, printed or not
   pub ends_finish : (steps : List Step) (at : ℕ) (status : Status) → HasScript left steps → All IsRootStep steps → length steps ≤ 128
       → (tells → before ≡ Ok served_state) → (tells → after ≡ Ok (committed_state (is_written_by steps) (tree_after single steps)))
       → journal.entries.items ≡ whole_entries (is_written_by steps) (length steps) at → journal.doubt ≡ None
       → FinishEnds old new sink_rose (reply_lines 1 (whole_answers (is_written_by steps) steps) ++ files_lines (is_written_by steps)) status
-      → EndsAs tells rest before after failed left source_rose old new sink_rose journal status
+      → EndsAs tells before after failed left source_rose old new sink_rose journal status
   ends_finish steps at Success script root few fresh run entries sure ends =
       let A : List ℕ → Type 0 = λ text. Appends old new text in (
         steps,
@@ -124,14 +124,14 @@ module _ (tells rest : Type 0) (before after : Result State Refused) (failed : H
   pub ends_drive : (steps : List Step) (half : Half) (at : ℕ) (status : Status) → HasScript left steps → All IsRootStep steps → length steps ≤ 128 → failed half
       → is_written_by steps ≡ true → journal.entries.items ≡ held_entries (length steps) → IsCutOff tells before after (length steps + 2) at None journal.doubt
       → HaltEnds old new sink_rose (reply_lines 1 (step_answers steps) ++ drive_text half) DriveFault status
-      → EndsAs tells rest before after failed left source_rose old new sink_rose journal status
+      → EndsAs tells before after failed left source_rose old new sink_rose journal status
   ends_drive steps half at status script root few broken written entries cut (inl ends) =
       let R : List Entry → Type 0 = λ es. Reaches served_state (scripts_of steps) es (held_standing steps) in
       let P : List ℕ → Type 0 = λ text. Prints old new sink_rose (text ++ drive_text half) in
       let count : length (step_answers steps) ≤ length steps + 2 = omega (arith, step_answers-length steps) in
       let text : reply_lines 1 (step_answers steps) ≡ answers_printed (scripts_of steps) (held_standing steps)
       = sym (answers_text steps (held_standing steps) _ refl ∙ lines_printed steps (step_answers steps) count) in
-      let E : Status → Type 0 = λ s. EndsAs tells rest before after failed left source_rose old new sink_rose journal s in
+      let E : Status → Type 0 = λ s. EndsAs tells before after failed left source_rose old new sink_rose journal s in
       subst E (sym ends.0) (
         half,
         steps,
@@ -140,12 +140,12 @@ module _ (tells rest : Type 0) (before after : Result State Refused) (failed : H
         script,
         subst R (sym entries) (as_served (scripts_of steps) (held_entries (length steps)) (held_standing steps) (held_reaches steps root few written)),
         cut_doubt tells before after steps at journal.doubt root written cut,
-        (λ t how. cut_holds tells before after (length steps + 2) at journal.doubt cut t),
+        (λ t. cut_holds tells before after (length steps + 2) at journal.doubt cut t),
         subst P text ends.1,
       )
   ends_drive steps half at status script root few broken written entries cut (inr ends) =
       let R : List Entry → Type 0 = λ es. Reaches served_state (scripts_of steps) es (held_standing steps) in
-      let E : Status → Type 0 = λ s. EndsAs tells rest before after failed left source_rose old new sink_rose journal s in
+      let E : Status → Type 0 = λ s. EndsAs tells before after failed left source_rose old new sink_rose journal s in
       subst E (sym ends.0)
       (steps, held_standing steps, inr script, subst R (sym entries) (as_served (scripts_of steps) (held_entries (length steps)) (held_standing steps) (held_reaches steps root few written)), cut_doubt tells before after steps at journal.doubt root written cut, ends.1)
 
@@ -153,11 +153,11 @@ module _ (tells rest : Type 0) (before after : Result State Refused) (failed : H
   pub ends_memory : (steps : List Step) (at : ℕ) (status : Status) → HasScript left steps → All IsRootStep steps → length steps ≤ 128
       → IsFront journal.entries.items (whole_entries (is_written_by steps) (length steps) at) → journal.doubt ≡ None
       → HaltEnds old new sink_rose memory_text Memory status
-      → EndsAs tells rest before after failed left source_rose old new sink_rose journal status
+      → EndsAs tells before after failed left source_rose old new sink_rose journal status
   ends_memory steps at status script root few front sure ends =
       let reached = front_reaches served_state (scripts_of steps) journal.entries.items (whole_entries (is_written_by steps) (length steps) at) (final_standing steps at) front
       (as_served (scripts_of steps) (whole_entries (is_written_by steps) (length steps) at) (final_standing steps at) (whole_reaches steps at root few)) in
-      let E : Status → Type 0 = λ s. EndsAs tells rest before after failed left source_rose old new sink_rose journal s in
+      let E : Status → Type 0 = λ s. EndsAs tells before after failed left source_rose old new sink_rose journal s in
       elim ends [
         | inl same ↦ subst E (sym same.0) (steps, reached.0, inr script, reached.1, none_doubt steps reached.0 journal.doubt sure, same.1)
         | inr same ↦ subst E (sym same.0) (steps, reached.0, inr script, reached.1, none_doubt steps reached.0 journal.doubt sure, same.1)
@@ -165,16 +165,16 @@ module _ (tells rest : Type 0) (before after : Result State Refused) (failed : H
 
   -- nothing was noted, and memory ran out
   pub ends_empty : (steps : List Step) (status : Status) → journal.entries.items ≡ [] → journal.doubt ≡ None → status ≡ Memory → Prints old new sink_rose memory_text
-      → EndsAs tells rest before after failed left source_rose old new sink_rose journal status
+      → EndsAs tells before after failed left source_rose old new sink_rose journal status
   ends_empty steps status none sure is prints =
       let R : List Entry → Type 0 = λ es. Reaches served_state (scripts_of steps) es (start served_state (scripts_of steps)) in
-      let E : Status → Type 0 = λ s. EndsAs tells rest before after failed left source_rose old new sink_rose journal s in
+      let E : Status → Type 0 = λ s. EndsAs tells before after failed left source_rose old new sink_rose journal s in
       let reached : Reaches served_state (scripts_of steps) [] (start served_state (scripts_of steps)) = record { legal = tt; leads = refl } in
       subst E (sym is) (steps, start served_state (scripts_of steps), inl none, subst R (sym none) reached, none_doubt steps (start served_state (scripts_of steps)) journal.doubt sure, prints)
 
   -- and it said so
   pub ends_stopped : (steps : List Step) (status : Status) → journal.entries.items ≡ [] → journal.doubt ≡ None → HaltEnds old new sink_rose memory_text Memory status
-      → EndsAs tells rest before after failed left source_rose old new sink_rose journal status
+      → EndsAs tells before after failed left source_rose old new sink_rose journal status
   ends_stopped steps status none sure (inl ends) = ends_empty steps status none sure ends.0 ends.1
   ends_stopped steps status none sure (inr ends) = ends_empty steps status none sure ends.0 ends.1
 
@@ -189,18 +189,18 @@ module _ (tells rest : Type 0) (before after : Result State Refused) (failed : H
   pub ends_store : (steps : List Step) (status : Status) → HasScript left steps
       → (tells → ((state : State) × (before ≡ Ok state)) × (before ≡ Ok served_state → ⊥)) → (tells → after ≡ before)
       → journal.entries.items ≡ [] → journal.doubt ≡ None → HaltEnds old new sink_rose (stop_text [] Store) BadStore status
-      → EndsAs tells rest before after failed left source_rose old new sink_rose journal status
+      → EndsAs tells before after failed left source_rose old new sink_rose journal status
   ends_store steps status script stale same none sure (inl ends) =
-      let E : Status → Type 0 = λ s. EndsAs tells rest before after failed left source_rose old new sink_rose journal s in
+      let E : Status → Type 0 = λ s. EndsAs tells before after failed left source_rose old new sink_rose journal s in
       subst E (sym ends.0) (steps, start served_state (scripts_of steps), script, same, inl (stale, ends.1), empty_reached steps none, sure, inl none)
   ends_store steps status script stale same none sure (inr ends) = ends_empty steps status none sure ends.0 ends.1
 
   -- the halves hold no store
   pub ends_bad : (steps : List Step) (cause : Refused) (status : Status) → HasScript left steps → (tells → before ≡ Err cause) → (tells → after ≡ before)
       → journal.entries.items ≡ [] → journal.doubt ≡ None → HaltEnds old new sink_rose (bad_store_text cause) BadStore status
-      → EndsAs tells rest before after failed left source_rose old new sink_rose journal status
+      → EndsAs tells before after failed left source_rose old new sink_rose journal status
   ends_bad steps cause status script bad same none sure (inl ends) =
-      let E : Status → Type 0 = λ s. EndsAs tells rest before after failed left source_rose old new sink_rose journal s in
+      let E : Status → Type 0 = λ s. EndsAs tells before after failed left source_rose old new sink_rose journal s in
       subst E (sym ends.0) (steps, start served_state (scripts_of steps), script, same, inr (cause, bad, ends.1), empty_reached steps none, sure, inl none)
   ends_bad steps cause status script bad same none sure (inr ends) = ends_empty steps status none sure ends.0 ends.1
 
@@ -208,10 +208,10 @@ module _ (tells rest : Type 0) (before after : Result State Refused) (failed : H
   pub ends_changed : (steps : List Step) (status : Status) → HasScript left steps → All IsRootStep steps → length steps ≤ 128 → (tells → ⊥)
       → is_written_by steps ≡ true → journal.entries.items ≡ held_entries (length steps) → journal.doubt ≡ None
       → HaltEnds old new sink_rose (stop_text [] Store) BadStore status
-      → EndsAs tells rest before after failed left source_rose old new sink_rose journal status
+      → EndsAs tells before after failed left source_rose old new sink_rose journal status
   ends_changed steps status script root few untold written entries sure ends =
       let R : List Entry → Type 0 = λ es. Reaches served_state (scripts_of steps) es (held_standing steps) in
-      let E : Status → Type 0 = λ s. EndsAs tells rest before after failed left source_rose old new sink_rose journal s in
+      let E : Status → Type 0 = λ s. EndsAs tells before after failed left source_rose old new sink_rose journal s in
       let reached = subst R (sym entries) (as_served (scripts_of steps) (held_entries (length steps)) (held_standing steps) (held_reaches steps root few written)) in
       elim ends [
         | inl end ↦ subst E (sym end.0)
@@ -221,10 +221,10 @@ module _ (tells rest : Type 0) (before after : Result State Refused) (failed : H
 
   -- a half failed before anything was noted
   pub ends_unopened : (steps : List Step) (half : Half) (status : Status) → HasScript left steps → failed half
-      → (tells → rest → after ≡ before) → journal.entries.items ≡ [] → journal.doubt ≡ None → HaltEnds old new sink_rose (drive_text half) DriveFault status
-      → EndsAs tells rest before after failed left source_rose old new sink_rose journal status
+      → (tells → after ≡ before) → journal.entries.items ≡ [] → journal.doubt ≡ None → HaltEnds old new sink_rose (drive_text half) DriveFault status
+      → EndsAs tells before after failed left source_rose old new sink_rose journal status
   ends_unopened steps half status script broken same none sure (inl ends) =
-      let E : Status → Type 0 = λ s. EndsAs tells rest before after failed left source_rose old new sink_rose journal s in
+      let E : Status → Type 0 = λ s. EndsAs tells before after failed left source_rose old new sink_rose journal s in
       subst E (sym ends.0) (
         half,
         steps,
@@ -233,7 +233,7 @@ module _ (tells rest : Type 0) (before after : Result State Refused) (failed : H
         script,
         empty_reached steps none,
         none_doubt steps (start served_state (scripts_of steps)) journal.doubt sure,
-        (λ t how undoubted. elim how [ inl r ↦ (same t r, λ opening. same t r ∙ opening) | inr some ↦ absurd (some none) ]),
+        (λ t undoubted. (same t, λ opening. same t ∙ opening)),
         ends.1,
       )
   ends_unopened steps half status script broken same none sure (inr ends) = ends_empty steps status none sure ends.0 ends.1
@@ -241,31 +241,31 @@ module _ (tells rest : Type 0) (before after : Result State Refused) (failed : H
   -- the script is not in shape
   pub ends_script : (status : Status) → IfSome left (λ all. (steps : List Step) → IsScript all steps → ⊥)
       → journal.entries.items ≡ [] → journal.doubt ≡ None → HaltEnds old new sink_rose (stop_text [] Script) BadScript status
-      → EndsAs tells rest before after failed left source_rose old new sink_rose journal status
+      → EndsAs tells before after failed left source_rose old new sink_rose journal status
   ends_script status shapeless none sure (inl ends) =
-      let E : Status → Type 0 = λ s. EndsAs tells rest before after failed left source_rose old new sink_rose journal s in
+      let E : Status → Type 0 = λ s. EndsAs tells before after failed left source_rose old new sink_rose journal s in
       subst E (sym ends.0) (shapeless, record { entries = none; doubt = sure }, ends.1)
   ends_script status shapeless none sure (inr ends) = ends_empty [] status none sure ends.0 ends.1
 
   -- the source failed
   pub ends_source : (status : Status) → source_rose → journal.entries.items ≡ [] → journal.doubt ≡ None
       → HaltEnds old new sink_rose (stop_text [] Source) SourceFault status
-      → EndsAs tells rest before after failed left source_rose old new sink_rose journal status
+      → EndsAs tells before after failed left source_rose old new sink_rose journal status
   ends_source status rose none sure (inl ends) =
-      let E : Status → Type 0 = λ s. EndsAs tells rest before after failed left source_rose old new sink_rose journal s in
+      let E : Status → Type 0 = λ s. EndsAs tells before after failed left source_rose old new sink_rose journal s in
       subst E (sym ends.0) (rose, record { entries = none; doubt = sure }, ends.1)
   ends_source status rose none sure (inr ends) = ends_empty [] status none sure ends.0 ends.1
 
   -- an end that does not rest on the source's count, seen from a later beginning
-  pub ends_earlier : (rest' : Type 0) (before' : Result State Refused) (failed' : Half → Type 0) (source_rose' : Type 0) (status : Status)
-      → (rest' → rest) → (tells → before ≡ before') → ((h : Half) → failed h → failed' h) → (source_rose → source_rose')
-      → EndsAs tells rest before after failed left source_rose old new sink_rose journal status
-      → EndsAs tells rest' before' after failed' left source_rose' old new sink_rose journal status
-  ends_earlier rest' before' failed' source_rose' Success later same broken rose ends =
+  pub ends_earlier : (before' : Result State Refused) (failed' : Half → Type 0) (source_rose' : Type 0) (status : Status)
+      → (tells → before ≡ before') → ((h : Half) → failed h → failed' h) → (source_rose → source_rose')
+      → EndsAs tells before after failed left source_rose old new sink_rose journal status
+      → EndsAs tells before' after failed' left source_rose' old new sink_rose journal status
+  ends_earlier before' failed' source_rose' Success same broken rose ends =
       (ends.0, ends.1, ends.2, ends.3, (λ t. record { opening = sym (same t) ∙ (ends.4 t).opening; closing = (ends.4 t).closing }), ends.5)
-  ends_earlier rest' before' failed' source_rose' Usage later same broken rose ends = ends
-  ends_earlier rest' before' failed' source_rose' BadScript later same broken rose ends = ends
-  ends_earlier rest' before' failed' source_rose' DriveFault later same broken rose ends = (
+  ends_earlier before' failed' source_rose' Usage same broken rose ends = ends
+  ends_earlier before' failed' source_rose' BadScript same broken rose ends = ends
+  ends_earlier before' failed' source_rose' DriveFault same broken rose ends = (
     ends.0,
     ends.1,
     ends.2,
@@ -273,12 +273,12 @@ module _ (tells rest : Type 0) (before after : Result State Refused) (failed : H
     ends.4,
     ends.5,
     ends.6,
-    (λ t how none.
-        let h = ends.7 t (elim how [ inl r ↦ inl (later r) | inr some ↦ inr some ]) none in
+    (λ t none.
+        let h = ends.7 t none in
         (h.0 ∙ same t, λ opening. h.1 (same t ∙ opening))),
     ends.8,
   )
-  ends_earlier rest' before' failed' source_rose' BadStore later same broken rose ends = (
+  ends_earlier before' failed' source_rose' BadStore same broken rose ends = (
     ends.0,
     ends.1,
     ends.2,
@@ -291,10 +291,10 @@ module _ (tells rest : Type 0) (before after : Result State Refused) (failed : H
     ends.6,
     ends.7,
   )
-  ends_earlier rest' before' failed' source_rose' SinkFault later same broken rose ends =
+  ends_earlier before' failed' source_rose' SinkFault same broken rose ends =
       (ends.0, ends.1, ends.2, ends.3, (λ t. record { opening = sym (same t) ∙ (ends.4 t).opening; closing = (ends.4 t).closing }), ends.5, ends.6)
-  ends_earlier rest' before' failed' source_rose' SourceFault later same broken rose ends = (rose ends.0, ends.1, ends.2)
-  ends_earlier rest' before' failed' source_rose' Memory later same broken rose ends = ends
+  ends_earlier before' failed' source_rose' SourceFault same broken rose ends = (rose ends.0, ends.1, ends.2)
+  ends_earlier before' failed' source_rose' Memory same broken rose ends = ends
 
 -- no text of the source is a script, but one is
 not_both : (left : Option (List ℕ)) → IfSome left (λ all. (steps : List Step) → IsScript all steps → ⊥) → HoldsScript left → ⊥
@@ -302,20 +302,20 @@ not_both None none shaped = shaped
 not_both (Some all) none shaped = none shaped.0 shaped.1
 
 -- where nothing failed, all is done or memory ran out
-pub completes : (tells rest : Type 0) (before after : Result State Refused) (failed : Half → Type 0) (left : Option (List ℕ)) (source_rose : Type 0)
+pub completes : (tells : Type 0) (before after : Result State Refused) (failed : Half → Type 0) (left : Option (List ℕ)) (source_rose : Type 0)
     (old new : Option (List ℕ)) (sink_rose : Type 0) (journal : Journal) (status : Status) → tells → NothingFailed before failed left source_rose sink_rose
-    → EndsAs tells rest before after failed left source_rose old new sink_rose journal status → IsDone status
-completes tells rest before after failed left source_rose old new sink_rose journal Success t sound ends = tt
-completes tells rest before after failed left source_rose old new sink_rose journal Usage t sound ends = ends
-completes tells rest before after failed left source_rose old new sink_rose journal BadScript t sound ends = not_both left ends.0 sound.shaped
-completes tells rest before after failed left source_rose old new sink_rose journal DriveFault t sound ends = sound.halves ends.0 ends.3
-completes tells rest before after failed left source_rose old new sink_rose journal BadStore t sound ends = elim ends.4 [
+    → EndsAs tells before after failed left source_rose old new sink_rose journal status → IsDone status
+completes tells before after failed left source_rose old new sink_rose journal Success t sound ends = tt
+completes tells before after failed left source_rose old new sink_rose journal Usage t sound ends = ends
+completes tells before after failed left source_rose old new sink_rose journal BadScript t sound ends = not_both left ends.0 sound.shaped
+completes tells before after failed left source_rose old new sink_rose journal DriveFault t sound ends = sound.halves ends.0 ends.3
+completes tells before after failed left source_rose old new sink_rose journal BadStore t sound ends = elim ends.4 [
   | inl x ↦ (x.0 t).1 sound.served
   | inr x ↦ (let both : Ok served_state ≡ Err x.0 = sym sound.served ∙ x.1 t in absurd (cc both))
 ]
-completes tells rest before after failed left source_rose old new sink_rose journal SinkFault t sound ends = sound.sink ends.6
-completes tells rest before after failed left source_rose old new sink_rose journal SourceFault t sound ends = sound.source ends.0
-completes tells rest before after failed left source_rose old new sink_rose journal Memory t sound ends = tt
+completes tells before after failed left source_rose old new sink_rose journal SinkFault t sound ends = sound.sink ends.6
+completes tells before after failed left source_rose old new sink_rose journal SourceFault t sound ends = sound.source ends.0
+completes tells before after failed left source_rose old new sink_rose journal Memory t sound ends = tt
 
 -- a half that failed later failed
 pub failed_earlier : (a b n m : ℕ) → a ≤ b → HasFailed b n m → HasFailed a n m

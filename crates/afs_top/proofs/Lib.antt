@@ -7,7 +7,9 @@ pub mod Halves
 pub mod Journal
 pub mod Lines
 mod NewTest
+mod Outside
 mod Placing
+mod Room
 pub mod Rooted
 pub mod RootTree
 pub mod ScriptLemmas

@@ -21,16 +21,3 @@ IsUnserved tells before Store = tells → ((state : State) × (before ≡ Ok sta
 IsUnserved tells before (Bad block why) = tells → before ≡ Err (record { block = block; why = why })
 IsUnserved tells before (Drive h) = Unit {0}
 IsUnserved tells before Memory = Unit {0}
-
--- no half stopped it
-abbrev pub IsUntornStop : Stop → Type 0
-IsUntornStop Source = Unit {0}
-IsUntornStop Script = Unit {0}
-IsUntornStop Store = Unit {0}
-IsUntornStop (Bad block why) = Unit {0}
-IsUntornStop (Drive h) = ⊥
-IsUntornStop Memory = Unit {0}
-
-abbrev pub IsUntorn : {V : Type 0} → Result (Served V) (Unserved V) → Type 0
-IsUntorn (Ok s) = Unit {0}
-IsUntorn (Err e) = IsUntornStop e.stop

@@ -1,4 +1,4 @@
-use Rattle.std.specs.Prelude.{◌≡◌, ◌≢◌, ◌⊎◌, ℕ, List, [], ◌++◌, Option, None, Result, Ok, Err, IfSome, IsSome, IsSomeAnd}
+use Rattle.std.specs.Prelude.{◌≡◌, ◌⊎◌, ℕ, List, [], ◌++◌, Option, None, Result, Ok, Err, IfSome, IsSome, IsSomeAnd}
 use Rattle.std.specs.Io.KnownBytes.{Appends}
 use Rattle.drives.specs.declared.device.Half.{Half}
 use Rattle.endings.specs.Noted.{IsNothingNoted}
@@ -66,32 +66,31 @@ IsRefused tells before old new sink_rose =
     (((tells → ((state : State) × (before ≡ Ok state)) × (before ≡ Ok served_state → ⊥))) × Prints old new sink_rose (stop_text [] Store))
     ⊎ ((cause : Refused) × (tells → before ≡ Err cause) × Prints old new sink_rose (bad_store_text cause))
 
--- How a call ends, by its status: over halves where nothing was pending as it began if they were at `rest`, on which `before` was found and
--- `after` is found, where they tell it, of which some have `failed`, a source that had `left` and a sink that had `old` and has `new` written.
-abbrev pub EndsAs : Type 0 → Type 0 → Result State Refused → Result State Refused → (Half → Type 0) → Option (List ℕ) → Type 0 → Option (List ℕ) → Option (List ℕ) → Type 0 → Journal → Status → Type 0
-EndsAs tells rest before after failed left source_rose old new sink_rose journal Success =
+-- How a call ends, by its status: over halves on which `before` was found and `after` is found, where they tell it, of which some have
+-- `failed`, a source that had `left` and a sink that had `old` and has `new` written.
+abbrev pub EndsAs : Type 0 → Result State Refused → Result State Refused → (Half → Type 0) → Option (List ℕ) → Type 0 → Option (List ℕ) → Option (List ℕ) → Type 0 → Journal → Status → Type 0
+EndsAs tells before after failed left source_rose old new sink_rose journal Success =
     (steps : List Step) × (s : Standing) × HasScript left steps × IsRun journal steps s × (tells → IsStored before after s)
     × Appends old new (printed (scripts_of steps) s)
-EndsAs tells rest before after failed left source_rose old new sink_rose journal Usage = ⊥
-EndsAs tells rest before after failed left source_rose old new sink_rose journal BadScript =
+EndsAs tells before after failed left source_rose old new sink_rose journal Usage = ⊥
+EndsAs tells before after failed left source_rose old new sink_rose journal BadScript =
     IfSome left (λ all. (steps : List Step) → IsScript all steps → ⊥) × IsNothingNoted journal
     × Prints old new sink_rose (stop_text [] Script)
-EndsAs tells rest before after failed left source_rose old new sink_rose journal DriveFault =
+EndsAs tells before after failed left source_rose old new sink_rose journal DriveFault =
     (half : Half) × (steps : List Step) × (s : Standing) × failed half × HasScript left steps
     × Reaches served_state (scripts_of steps) journal.entries.items s × IsDoubt steps s journal.doubt
-    -- where something was pending, and a half failed in a write before the run began, what is found is not told
-    × (tells → rest ⊎ (journal.entries.items ≢ []) → HoldsUndoubted before after journal.doubt s.state) × Prints old new sink_rose (answers_printed (scripts_of steps) s ++ drive_text half)
-EndsAs tells rest before after failed left source_rose old new sink_rose journal BadStore =
+    × (tells → HoldsUndoubted before after journal.doubt s.state) × Prints old new sink_rose (answers_printed (scripts_of steps) s ++ drive_text half)
+EndsAs tells before after failed left source_rose old new sink_rose journal BadStore =
     (steps : List Step) × (s : Standing) × HasScript left steps × (tells → after ≡ before) × IsRefused tells before old new sink_rose
     × Reaches served_state (scripts_of steps) journal.entries.items s × (journal.doubt ≡ None)
     -- halves that were refused as they were opened were not played on; blocks that tell their contents do not change under the call
     × ((journal.entries.items ≡ []) ⊎ (tells → ⊥))
-EndsAs tells rest before after failed left source_rose old new sink_rose journal SinkFault =
+EndsAs tells before after failed left source_rose old new sink_rose journal SinkFault =
     (steps : List Step) × (s : Standing) × HasScript left steps × IsRun journal steps s × (tells → IsStored before after s)
     × AppendsFront old new (printed (scripts_of steps) s) × sink_rose
-EndsAs tells rest before after failed left source_rose old new sink_rose journal SourceFault =
+EndsAs tells before after failed left source_rose old new sink_rose journal SourceFault =
     source_rose × IsNothingNoted journal × Prints old new sink_rose (stop_text [] Source)
-EndsAs tells rest before after failed left source_rose old new sink_rose journal Memory =
+EndsAs tells before after failed left source_rose old new sink_rose journal Memory =
     (steps : List Step) × (s : Standing) × ((journal.entries.items ≡ []) ⊎ HasScript left steps)
     × Reaches served_state (scripts_of steps) journal.entries.items s × IsDoubt steps s journal.doubt × Prints old new sink_rose memory_text
 

@@ -16,7 +16,7 @@ IsHalt (Bad block why) = ⊥
 IsHalt (Drive h) = Unit {0}
 IsHalt Memory = Unit {0}
 
--- a half failed, or a block of the store changed under the call
+-- a half failed, or the blocks do not hold the store that is served: another one, or one that changed under the call
 abbrev pub IsFault : Stop → Type 0
 IsFault Source = ⊥
 IsFault Script = ⊥
@@ -24,15 +24,6 @@ IsFault Store = Unit {0}
 IsFault (Bad block why) = ⊥
 IsFault (Drive h) = Unit {0}
 IsFault Memory = ⊥
-
--- why opening may stop
-abbrev pub IsOpenStop : Stop → Type 0
-IsOpenStop Source = ⊥
-IsOpenStop Script = ⊥
-IsOpenStop Store = Unit {0}
-IsOpenStop (Bad block why) = Unit {0}
-IsOpenStop (Drive h) = Unit {0}
-IsOpenStop Memory = Unit {0}
 
 -- why a call on a block stops the run
 abbrev pub fault_stop : PairFault → Stop

@@ -1,7 +1,7 @@
 ghost use Rattle.std.specs.Prelude.{◌≡◌, ◌⊎◌, ◌≤◌, ◌<◌, [], length, List, ℕ, IfSome, IfOk, IfErr, IsErrOf, All, Option, None};
 ghost use Rattle.afs_base.specs.Causes.{Rose};
 ghost use Rattle.drives.specs.declared.device.Half.{Half};
-ghost use Rattle.drives.specs.Changes.{IsAtRest, halves_seen};
+ghost use Rattle.drives.specs.Changes.{halves_seen};
 ghost use Rattle.recovery.specs.Opening.{IsFailed};
 ghost use Rattle.endings.specs.Status.{IsDone};
 ghost use Rattle.pair_store.specs.Content.{IsSettled, content_of};
@@ -67,7 +67,7 @@ fn play_opened<B: Blocks, K: Sink>(
     requires entries { account.old.journal.entries.items ≡ [] }
     requires replies { account.old.replies.items ≡ [] }
     requires doubt { account.old.journal.doubt ≡ None }
-    ensures ends { (left : Option (List ℕ)) → HasScript left steps.now → EndsAs B.tells (Unit {0}) (found (B.content store.old) (B.size store.old)) (found (B.content store.new) (B.size store.new))
+    ensures ends { (left : Option (List ℕ)) → HasScript left steps.now → EndsAs B.tells (found (B.content store.old) (B.size store.old)) (found (B.content store.new) (B.size store.new))
         (λ h. IsFailed (B.faults store.old) (B.faults store.new) (B.last_fault store.new) (B.moment store.new) (B.tells → IsServed (B.content store.old) (B.size store.old) → ⊥) h) left ⊥ (K.written out.old) (K.written out.new) (Rose (K.faults out.old) (K.faults out.new)) account.new.journal result }
     ensures opened { IsBeforeOpening result → ⊥ }
     ensures later { (h : Half) → B.faults store.old h ≤ B.faults store.new h }
@@ -98,7 +98,7 @@ fn play_served<V: Drives, K: Sink>(
     requires entries { account.old.journal.entries.items ≡ [] }
     requires replies { account.old.replies.items ≡ [] }
     requires doubt { account.old.journal.doubt ≡ None }
-    ensures ends { (left : Option (List ℕ)) → HasScript left steps.now → EndsAs V.tells (Unit {0}) (found (content_of (halves_seen V.seen served.pair.drives)) (V.size served.pair.drives)) (found (content_of (halves_seen V.seen result.drives)) (V.size result.drives))
+    ensures ends { (left : Option (List ℕ)) → HasScript left steps.now → EndsAs V.tells (found (content_of (halves_seen V.seen served.pair.drives)) (V.size served.pair.drives)) (found (content_of (halves_seen V.seen result.drives)) (V.size result.drives))
         (λ h. IsFailed (V.faults served.pair.drives) (V.faults result.drives) (V.last_fault result.drives) (V.moment result.drives) (V.tells → IsServed (content_of (halves_seen V.seen served.pair.drives)) (V.size served.pair.drives) → ⊥) h) left ⊥ (K.written out.old) (K.written out.new) (Rose (K.faults out.old) (K.faults out.new)) account.new.journal result.status }
     ensures opened { IsBeforeOpening result.status → ⊥ }
 {
@@ -124,7 +124,7 @@ fn play_steps<V: Drives, K: Sink>(
     requires entries { account.old.journal.entries.items ≡ [] }
     requires replies { account.old.replies.items ≡ [] }
     requires doubt { account.old.journal.doubt ≡ None }
-    ensures ends { (left : Option (List ℕ)) → HasScript left steps.now → EndsAs V.tells (IsAtRest V.seen V.moment V.may_leave drives) (found (content_of (halves_seen V.seen drives)) (V.size drives)) (found (content_of (halves_seen V.seen result.drives)) (V.size result.drives))
+    ensures ends { (left : Option (List ℕ)) → HasScript left steps.now → EndsAs V.tells (found (content_of (halves_seen V.seen drives)) (V.size drives)) (found (content_of (halves_seen V.seen result.drives)) (V.size result.drives))
         (λ h. IsFailed (V.faults drives) (V.faults result.drives) (V.last_fault result.drives) (V.moment result.drives) (V.tells → IsServed (content_of (halves_seen V.seen drives)) (V.size drives) → ⊥) h) left ⊥ (K.written out.old) (K.written out.new) (Rose (K.faults out.old) (K.faults out.new)) account.new.journal result.status }
     ensures opened { IsBeforeOpening result.status → ⊥ }
 {
@@ -151,7 +151,7 @@ fn serve<V: Drives, S: Source, K: Sink>(
     requires entries { account.old.journal.entries.items ≡ [] }
     requires replies { account.old.replies.items ≡ [] }
     requires doubt { account.old.journal.doubt ≡ None }
-    ensures ends { EndsAs V.tells (IsAtRest V.seen V.moment V.may_leave drives) (found (content_of (halves_seen V.seen drives)) (V.size drives)) (found (content_of (halves_seen V.seen result.drives)) (V.size result.drives))
+    ensures ends { EndsAs V.tells (found (content_of (halves_seen V.seen drives)) (V.size drives)) (found (content_of (halves_seen V.seen result.drives)) (V.size result.drives))
         (λ h. IsFailed (V.faults drives) (V.faults result.drives) (V.last_fault result.drives) (V.moment result.drives) (V.tells → IsServed (content_of (halves_seen V.seen drives)) (V.size drives) → ⊥) h) (S.left source.old) (Rose (S.faults source.old) (S.faults source.new)) (K.written out.old) (K.written out.new) (Rose (K.faults out.old) (K.faults out.new)) account.new.journal result.status }
     ensures untouched { IsBeforeOpening result.status → result.drives ≡ drives }
 {
@@ -178,7 +178,7 @@ pub fn afs_play<V: Drives, S: Source, K: Sink>(
 ) -> Ended<V>
     requires alone { length scripts.old ≡ 1 }
     requires order { order.now ≡ [] }
-    ensures ends { EndsAs V.tells (IsAtRest V.seen V.moment V.may_leave drives) (found (content_of (halves_seen V.seen drives)) (V.size drives)) (found (content_of (halves_seen V.seen result.drives)) (V.size result.drives))
+    ensures ends { EndsAs V.tells (found (content_of (halves_seen V.seen drives)) (V.size drives)) (found (content_of (halves_seen V.seen result.drives)) (V.size result.drives))
         (λ h. IsFailed (V.faults drives) (V.faults result.drives) (V.last_fault result.drives) (V.moment result.drives) (V.tells → IsServed (content_of (halves_seen V.seen drives)) (V.size drives) → ⊥) h) (left_of S.left scripts.old) (Rose (faults_of S.faults scripts.old) (faults_of S.faults scripts.new)) (K.written out.old) (K.written out.new) (Rose (K.faults out.old) (K.faults out.new)) result.journal result.status }
     // Over the store that is served and a script in shape a call ends well where nothing failed, but for want of memory.
     ensures complete { V.tells → NothingFailed (found (content_of (halves_seen V.seen drives)) (V.size drives))

@@ -2,9 +2,10 @@
 ghost use Rattle.std.specs.Prelude.{◌≡◌, ◌≢◌, ◌⊎◌, [], ℕ, ◌+◌, ◌<◌, ◌≤◌, Option, None, Some, length, slice_get, IsTrue, ◌↔◌, IfOk, IfErr, IfSome, IsSome, IsErrOf, MatchOption};
 ghost use Rattle.std.specs.List.{list_any};
 ghost use Rattle.std.specs.Option.{is_some};
+ghost use Rattle.block_map.specs.States.{free_count};
 ghost use Rattle.block_map.specs.declared.states.BlockState.TheVariants.{Free};
 ghost use Rattle.drives.specs.declared.device.Half.{Half};
-ghost use Rattle.drives.specs.Changes.{IsAtRest, halves_seen};
+ghost use Rattle.drives.specs.Changes.{halves_seen};
 ghost use Rattle.recovery.specs.Opening.{IsFailed, IsOpened};
 ghost use Rattle.pair_store.specs.Blocks.{SameContents};
 ghost use Rattle.pair_store.specs.Content.{IsSettled, content_of};
@@ -14,9 +15,9 @@ ghost use Rattle.page_codec.specs.Values.{EntryValue, ReferenceValue, VersionVal
 ghost use Rattle.store_model.specs.Changes.{version_in_block};
 ghost use Rattle.store_model.specs.Found.{found};
 ghost use Rattle.version_chain.specs.declared.head.Head.{Head};
-ghost use Rattle.afs_top.specs.Opening.{IsUnserved, IsUntorn, served_drives};
+ghost use Rattle.afs_top.specs.Opening.{IsUnserved, served_drives};
 ghost use Rattle.afs_top.specs.Served.{HasBlock, HoldsPage, IsBlank, IsNewFile, IsNewTable, IsReady, IsServed};
-ghost use Rattle.afs_top.specs.Stop.{IsHalt};
+ghost use Rattle.afs_top.specs.Stop.{IsFault};
 
 use crate::stop::{Stop, fault_stop, refused_stop};
 use afs_base::BlockNo;
@@ -182,11 +183,13 @@ fn head_blocks(heads: &[Option<Head>]) -> Option<HeadBlocks>
     }
 }
 
-/// A block that is not in use, and not this one, if there is one.
+/// A block that is not in use, and not this one. As many blocks are tried as are free, block 1 first: where fewer are in use, there is
+/// a free one among them.
 fn free_block(map: &BlockMap, base: BlockNo) -> Option<BlockNo>
-    ensures { IfSome result (λ n. (1 ≤ n) × ((n < length map.now) × ((slice_get map.now n ≡ Some Free) × (base ≢ n)))) }
+    ensures { MatchOption result ((n : ℕ) → 1 ≤ n → n ≤ free_count map.now → slice_get map.now n ≡ Some Free → n ≡ base)
+        (λ n. (1 ≤ n) × (n < length map.now) × (slice_get map.now n ≡ Some Free) × (base ≢ n)) }
 {
-    for n in 1..map.free() + 1 {
+    'numbers: for n in 1..map.free() + 1 {
         let block = block_no(n);
         match map.state(block) {
             BlockState::Free if n != base.get() => return Some(block),
@@ -217,7 +220,7 @@ fn reads_blank<B: Blocks>(store: &mut B, n: BlockNo) -> Result<bool, Stop>
     ensures kept { B.tells → (k : ℕ) → B.settled store.old k → B.settled store.new k }
     ensures stopped { (h : Half) → IsErrOf result (Stop.Drive h) → IsFailed (B.faults store.old) (B.faults store.new) (B.last_fault store.new) (B.moment store.new) (B.tells → ⊥) h }
     ensures changed { IsErrOf result Stop.Store → B.tells → ⊥ }
-    ensures only { IfErr result IsHalt }
+    ensures only { IfErr result IsFault }
     ensures later { (h : Half) → B.faults store.old h ≤ B.faults store.new h }
     ensures size { B.size store.new ≡ B.size store.old }
 {
@@ -243,7 +246,7 @@ fn both_blank<B: Blocks>(store: &mut B, first: BlockNo, second: BlockNo) -> Resu
     ensures kept { B.tells → (k : ℕ) → B.settled store.old k → B.settled store.new k }
     ensures stopped { (h : Half) → IsErrOf result (Stop.Drive h) → IsFailed (B.faults store.old) (B.faults store.new) (B.last_fault store.new) (B.moment store.new) (B.tells → ⊥) h }
     ensures changed { IsErrOf result Stop.Store → B.tells → ⊥ }
-    ensures only { IfErr result IsHalt }
+    ensures only { IfErr result IsFault }
     ensures later { (h : Half) → B.faults store.old h ≤ B.faults store.new h }
     ensures size { B.size store.new ≡ B.size store.old }
 {
@@ -270,7 +273,7 @@ fn find_place<B: Blocks>(
     ensures unserved { B.tells → IsErrOf result Stop.Store → IsServed (B.content store.old) (B.size store.old) → ⊥ }
     ensures same { B.tells → SameContents (B.content store.old) (B.content store.new) }
     ensures stopped { (h : Half) → IsErrOf result (Stop.Drive h) → IsFailed (B.faults store.old) (B.faults store.new) (B.last_fault store.new) (B.moment store.new) (B.tells → ⊥) h }
-    ensures only { IfErr result IsHalt }
+    ensures only { IfErr result IsFault }
     ensures later { (h : Half) → B.faults store.old h ≤ B.faults store.new h }
     ensures size { B.size store.new ≡ B.size store.old }
 {
@@ -287,7 +290,7 @@ fn find_place<B: Blocks>(
                     base: blocks.first,
                     free,
                 }),
-                None => Err(Stop::Memory),
+                None => Err(Stop::Store),
             }
         }
         None => Err(Stop::Store),
@@ -307,6 +310,7 @@ fn serve_opened<V: Drives>(opened: Opened<V>) -> Result<Served<V>, Unserved<V>>
     ensures settles { V.tells → IfOk result (λ s. IsSettled s.place.base (halves_seen V.seen s.pair.drives)) }
     ensures unserved { IfErr result (λ e. IsUnserved V.tells (found (content_of (halves_seen V.seen opened.pair.drives)) (V.size opened.pair.drives)) e.stop) }
     ensures stopped { (h : Half) → IfErr result (λ e. e.stop ≡ Stop.Drive h → IsFailed (V.faults opened.pair.drives) (V.faults e.drives) (V.last_fault e.drives) (V.moment e.drives) (V.tells → ⊥) h) }
+    ensures only { IfErr result (λ e. IsFault e.stop) }
     ensures later { (h : Half) → V.faults opened.pair.drives h ≤ V.faults (served_drives result) h }
     ensures size { V.size (served_drives result) ≡ V.size opened.pair.drives }
 {
@@ -329,9 +333,7 @@ fn serve_opened<V: Drives>(opened: Opened<V>) -> Result<Served<V>, Unserved<V>>
 
 /// Opens the halves, which have to hold the new store that is served.
 pub(crate) fn open_served<V: Drives>(alloc: Global, drives: V) -> Result<Served<V>, Unserved<V>>
-    // Where something is pending as the call begins, a half that fails in a write leaves the question open.
-    ensures same { V.tells → IsAtRest V.seen V.moment V.may_leave drives ⊎ IsUntorn result
-        → found (content_of (halves_seen V.seen (served_drives result))) (V.size (served_drives result)) ≡ found (content_of (halves_seen V.seen drives)) (V.size drives) }
+    ensures same { V.tells → found (content_of (halves_seen V.seen (served_drives result))) (V.size (served_drives result)) ≡ found (content_of (halves_seen V.seen drives)) (V.size drives) }
     ensures ready { V.tells → IfOk result (λ s. IsReady (content_of (halves_seen V.seen s.pair.drives)) (V.size s.pair.drives) s.place.base s.place.free) }
     ensures bounds { IfOk result (λ s. (1 ≤ s.place.base) × (s.place.base < V.size s.pair.drives) × (1 ≤ s.place.free) × (s.place.free < V.size s.pair.drives)) }
     ensures settles { V.tells → IfOk result (λ s. IsSettled s.place.base (halves_seen V.seen s.pair.drives)) }

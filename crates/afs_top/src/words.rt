@@ -42,7 +42,7 @@ fn serve_command<V: Drives, S: Source, K: Sink>(
     requires within { IsWithin (V.size drives) command.now }
     requires counted { length scripts.old ≡ scripts_of command.now }
     ensures called { IsUsage result.status → ⊥ }
-    ensures ends { Serves command.now (EndsAs V.tells (IsAtRest V.seen V.moment V.may_leave drives) (found (content_of (halves_seen V.seen drives)) (V.size drives)) (found (content_of (halves_seen V.seen result.drives)) (V.size result.drives))
+    ensures ends { Serves command.now (EndsAs V.tells (found (content_of (halves_seen V.seen drives)) (V.size drives)) (found (content_of (halves_seen V.seen result.drives)) (V.size result.drives))
         (λ h. IsFailed (V.faults drives) (V.faults result.drives) (V.last_fault result.drives) (V.moment result.drives) (V.tells → IsServed (content_of (halves_seen V.seen drives)) (V.size drives) → ⊥) h)
         (left_of S.left scripts.old) (Rose (faults_of S.faults scripts.old) (faults_of S.faults scripts.new)) (K.written out.old) (K.written out.new) (Rose (K.faults out.old) (K.faults out.new)) result.journal result.status)
         (λ store. FormatEnds store V.tells (found (content_of (halves_seen V.seen result.drives)) (V.size drives))
@@ -86,7 +86,7 @@ pub fn afs_words<V: Drives, S: Source, K: Sink>(
 ) -> Ended<V>
     ensures usage { IsUsage result.status → (c : Command) → IsCommand words.now (length scripts.old) (V.size drives) c → ⊥ }
     ensures command { ((c : Command) → IsCommand words.now (length scripts.old) (V.size drives) c → ⊥) → IsUsage result.status }
-    ensures ends { (c : Command) → IsCommand words.now (length scripts.old) (V.size drives) c → Serves c (EndsAs V.tells (IsAtRest V.seen V.moment V.may_leave drives) (found (content_of (halves_seen V.seen drives)) (V.size drives)) (found (content_of (halves_seen V.seen result.drives)) (V.size result.drives))
+    ensures ends { (c : Command) → IsCommand words.now (length scripts.old) (V.size drives) c → Serves c (EndsAs V.tells (found (content_of (halves_seen V.seen drives)) (V.size drives)) (found (content_of (halves_seen V.seen result.drives)) (V.size result.drives))
         (λ h. IsFailed (V.faults drives) (V.faults result.drives) (V.last_fault result.drives) (V.moment result.drives) (V.tells → IsServed (content_of (halves_seen V.seen drives)) (V.size drives) → ⊥) h)
         (left_of S.left scripts.old) (Rose (faults_of S.faults scripts.old) (faults_of S.faults scripts.new)) (K.written out.old) (K.written out.new) (Rose (K.faults out.old) (K.faults out.new)) result.journal result.status)
         (λ store. FormatEnds store V.tells (found (content_of (halves_seen V.seen result.drives)) (V.size drives))

@@ -1,7 +1,7 @@
 use Rattle.std.proofs.Common.{◌≡◌, ℕ, List, Option, get_or, sym, subst, slice_set}
 use Rattle.afs_base.specs.Causes.{Rose}
 use Rattle.drives.specs.declared.device.Half.{Half}
-use Rattle.drives.specs.Changes.{IsAtRest, halves_seen}
+use Rattle.drives.specs.Changes.{halves_seen}
 use Rattle.pair_store.specs.Content.{content_of}
 use Rattle.recovery.specs.Opening.{IsFailed}
 use Rattle.service_model.specs.declared.journal.Journal.{Journal}
@@ -16,7 +16,6 @@ pub returns-clause-ends : goal.returns-clause-ends
 returns-clause-ends g c =
     let tells = g.V.Drives.tells in
     let end = c.serve-played.result.drives in
-    let rest = IsAtRest g.V.Drives.seen g.V.Drives.moment g.V.Drives.may_leave c.args.drives in
     let before = found (content_of (halves_seen g.V.Drives.seen c.args.drives)) (g.V.Drives.size c.args.drives) in
     let after = found (content_of (halves_seen g.V.Drives.seen end)) (g.V.Drives.size end) in
     let Served : Type 0 = IsServed (content_of (halves_seen g.V.Drives.seen c.args.drives)) (g.V.Drives.size c.args.drives) in
@@ -27,7 +26,7 @@ returns-clause-ends g c =
     let scripts = c.args.scripts.now in
     let source = c.index-scripts-0.result in
     let read = c.serve-played.new.source in
-    let E : Option (List ℕ) → ℕ → ℕ → Journal → Type 0 = λ left a b journal. EndsAs tells rest before after failed left (Rose a b) old new rose journal c.serve-played.result.status in
+    let E : Option (List ℕ) → ℕ → ℕ → Journal → Type 0 = λ left a b journal. EndsAs tells before after failed left (Rose a b) old new rose journal c.serve-played.result.status in
     let L : Option (List ℕ) → Type 0 = λ left. E left (g.S.Source.faults (get_or scripts 0 source)) (g.S.Source.faults read) c.serve-played.new.account.journal in
     let A : ℕ → Type 0 = λ a. E (left_of g.S.Source.left scripts) a (g.S.Source.faults read) c.serve-played.new.account.journal in
     let B : ℕ → Type 0 = λ b. E (left_of g.S.Source.left scripts) (faults_of g.S.Source.faults scripts) b c.serve-played.new.account.journal in

@@ -43,7 +43,7 @@ returns-in-Ok-clause-ends g c = λ left script.
     let R : List LineReply → Type 0 = λ rs. FinishEnds old new rose (reply_lines 1 rs ++ files_lines c.in-Ok.written) c.finish.result in
     let W : Bool → Type 0 = λ b. FinishEnds old new rose (reply_lines 1 (whole_answers (is_written_by c.args.steps.now) c.args.steps.now) ++ files_lines b) c.finish.result in
     let replies = subst R (c.deref.ensures.value ∙ c.in-Ok.ensures.replies) c.finish.ensures.ends in
-    ends_finish g.B.Blocks.tells (Unit {0}) (found content size) (found (g.B.Blocks.content c.run.new.store) (g.B.Blocks.size c.run.new.store))
+    ends_finish g.B.Blocks.tells (found content size) (found (g.B.Blocks.content c.run.new.store) (g.B.Blocks.size c.run.new.store))
     (λ h. IsFailed (g.B.Blocks.faults c.args.store.now) (g.B.Blocks.faults c.run.new.store) (g.B.Blocks.last_fault c.run.new.store) (g.B.Blocks.moment c.run.new.store) (g.B.Blocks.tells → IsServed content size → ⊥) h)
     left ⊥ old new rose c.run.new.account.journal
     c.args.steps.now (g.B.Blocks.moment c.run.new.store) c.finish.result script c.requires.root c.requires.few
@@ -65,7 +65,7 @@ returns-in-Err-clause-ends g c = λ left script.
     let after = found (g.B.Blocks.content c.run.new.store) (g.B.Blocks.size c.run.new.store) in
     let failed : Half → Type 0 = λ h. IsFailed (g.B.Blocks.faults c.args.store.now) (g.B.Blocks.faults c.run.new.store) (g.B.Blocks.last_fault c.run.new.store) (g.B.Blocks.moment c.run.new.store)
     (tells → IsServed content size → ⊥) h in
-    let Ends : Type 0 = EndsAs tells (Unit {0}) before after failed left ⊥ old new rose journal status in
+    let Ends : Type 0 = EndsAs tells before after failed left ⊥ old new rose journal status in
     let H : List LineReply → Stop → Type 0 = λ rs s. HaltEnds old new rose (stop_text rs s) (stop_status s) status in
     let At : Stop → Type 0 = λ s. H c.deref-in-Err.result.now s in
     (elim c.in-Err.stop as (λ s. c.in-Err.stop ≡ s → IsHalt s → Ends) [
@@ -75,7 +75,7 @@ returns-in-Err-clause-ends g c = λ left script.
           let out : IsErrOf c.run.result Store = c.in-Err.is ∙ ap (λ (s : Stop). Err s) is in
           let cut = c.run.ensures.cut (stopped c.run.result Store out tt) in
           let changed = c.run.ensures.changed out in
-          ends_changed tells (Unit {0}) before after failed left ⊥ old new rose journal steps status script c.requires.root c.requires.few changed.0 cut.0 cut.1 changed.1
+          ends_changed tells before after failed left ⊥ old new rose journal steps status script c.requires.root c.requires.few changed.0 cut.0 cut.1 changed.1
           (subst At is c.halt.ensures.ends)
       | Bad block why ↦ λ is only. absurd only
       | Drive h ↦ λ is only.
@@ -85,12 +85,12 @@ returns-in-Err-clause-ends g c = λ left script.
           let Told : List LineReply → Type 0 = λ rs. H rs (Drive h) in
           let broken = failed_earlier (g.B.Blocks.faults c.args.store.now) (g.B.Blocks.faults c.run.new.store) (g.B.Blocks.last_fault c.run.new.store) (g.B.Blocks.moment c.run.new.store) h
           (g.B.Blocks.faults c.args.store.now) (tells → ⊥) (tells → IsServed content size → ⊥) (omega arith) (λ no t served. no t) (c.run.ensures.stopped h out) in
-          ends_drive tells (Unit {0}) before after failed left ⊥ old new rose journal
+          ends_drive tells before after failed left ⊥ old new rose journal
           steps h (g.B.Blocks.moment c.run.new.store) status script c.requires.root c.requires.few broken cut.0 cut.1 (c.run.ensures.doubt h out)
           (subst Told (c.deref-in-Err.ensures.value ∙ c.run.ensures.told fault) (subst At is c.halt.ensures.ends))
       | Memory ↦ λ is only.
           let out : IsErrOf c.run.result Memory = c.in-Err.is ∙ ap (λ (s : Stop). Err s) is in
           let noted = c.run.ensures.memory out in
-          ends_memory tells (Unit {0}) before after failed left ⊥ old new rose journal
+          ends_memory tells before after failed left ⊥ old new rose journal
           steps noted.0 status script c.requires.root c.requires.few noted.1 (c.run.ensures.memory_sure out) (subst At is c.halt.ensures.ends)
     ]) refl c.in-Err.ensures.only

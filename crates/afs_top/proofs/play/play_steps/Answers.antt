@@ -1,7 +1,7 @@
 use Rattle.std.proofs.Common.{◌≡◌, ◌⊎◌, inl, inr, List, [], refl, ap, sym, subst, ◌∙◌, Result}
 use Rattle.afs_base.specs.Causes.{Rose}
 use Rattle.drives.specs.declared.device.Half.{Half}
-use Rattle.drives.specs.Changes.{IsAtRest, halves_seen}
+use Rattle.drives.specs.Changes.{halves_seen}
 use Rattle.endings.specs.Printing.{HaltEnds}
 use Rattle.pair_store.specs.Content.{content_of}
 use Rattle.recovery.specs.Opening.{IsFailed}
@@ -9,7 +9,7 @@ use Rattle.script_text.specs.declared.reply.LineReply.{LineReply}
 use Rattle.store_model.specs.Found.{found}
 use Rattle.afs_top.specs.declared.stop.Stop.{Stop}
 use Rattle.afs_top.specs.declared.stop.Stop.TheVariants.{Source, Script, Store, Bad, Drive, Memory}
-use Rattle.afs_top.specs.Opening.{IsUnserved, IsUntornStop}
+use Rattle.afs_top.specs.Opening.{IsUnserved}
 use Rattle.afs_top.specs.Output.{stop_text}
 use Rattle.afs_top.specs.Play.{EndsAs}
 use Rattle.afs_top.specs.Served.{IsServed}
@@ -30,14 +30,14 @@ returns-in-Ok-clause-ends g c = λ left script.
     let opened = found (content_of (halves_seen g.V.Drives.seen mid)) (g.V.Drives.size mid) in
     let Served : Type 0 = IsServed (content_of (halves_seen g.V.Drives.seen c.args.drives)) (g.V.Drives.size c.args.drives) in
     let Later : Type 0 = IsServed (content_of (halves_seen g.V.Drives.seen mid)) (g.V.Drives.size mid) in
-    ends_earlier tells (Unit {0}) opened (found (content_of (halves_seen g.V.Drives.seen end)) (g.V.Drives.size end))
+    ends_earlier tells opened (found (content_of (halves_seen g.V.Drives.seen end)) (g.V.Drives.size end))
     (λ h. IsFailed (g.V.Drives.faults mid) (g.V.Drives.faults end) (g.V.Drives.last_fault end) (g.V.Drives.moment end) (tells → Later → ⊥) h) left ⊥
     old new rose c.play_served.new.account.journal
-    (IsAtRest g.V.Drives.seen g.V.Drives.moment g.V.Drives.may_leave c.args.drives) before
+    before
     (λ h. IsFailed (g.V.Drives.faults c.args.drives) (g.V.Drives.faults end) (g.V.Drives.last_fault end) (g.V.Drives.moment end) (tells → Served → ⊥) h) ⊥ c.play_served.result.status
-    (λ rest. tt) (λ t. c.in-Ok.ensures.same t (inr tt))
+    c.in-Ok.ensures.same
     (λ h. failed_earlier (g.V.Drives.faults mid) (g.V.Drives.faults end) (g.V.Drives.last_fault end) (g.V.Drives.moment end) h (g.V.Drives.faults c.args.drives)
-    (tells → Later → ⊥) (tells → Served → ⊥) (c.in-Ok.ensures.later h) (λ no t served. no t (c.in-Ok.ensures.same t (inr tt) ∙ served)))
+    (tells → Later → ⊥) (tells → Served → ⊥) (c.in-Ok.ensures.later h) (λ no t served. no t (c.in-Ok.ensures.same t ∙ served)))
     (λ x. x) (c.play_served.ensures.ends left script)
 
 pub returns-in-Err-clause-ends : goal.returns-in-Err-clause-ends
@@ -46,7 +46,6 @@ returns-in-Err-clause-ends g c = λ left script.
     let tells = g.V.Drives.tells in
     let end = c.in-Err.unserved.drives in
     let stop = c.in-Err.unserved.stop in
-    let rest = IsAtRest g.V.Drives.seen g.V.Drives.moment g.V.Drives.may_leave c.args.drives in
     let before = found (content_of (halves_seen g.V.Drives.seen c.args.drives)) (g.V.Drives.size c.args.drives) in
     let after = found (content_of (halves_seen g.V.Drives.seen end)) (g.V.Drives.size end) in
     let Served : Type 0 = IsServed (content_of (halves_seen g.V.Drives.seen c.args.drives)) (g.V.Drives.size c.args.drives) in
@@ -56,25 +55,23 @@ returns-in-Err-clause-ends g c = λ left script.
     let old = g.K.Sink.written c.args.out.now in
     let new = g.K.Sink.written c.halt.new.out in
     let rose = Rose (g.K.Sink.faults c.args.out.now) (g.K.Sink.faults c.halt.new.out) in
-    let Ends : Type 0 = EndsAs tells rest before after failed left ⊥ old new rose journal status in
+    let Ends : Type 0 = EndsAs tells before after failed left ⊥ old new rose journal status in
     let H : List LineReply → Stop → Type 0 = λ rs s. HaltEnds old new rose (stop_text rs s) (stop_status s) status in
     let Told : List LineReply → Type 0 = λ rs. H rs stop in
     let ends = subst Told (c.deref.ensures.value ∙ c.requires.replies) c.halt.ensures.ends in
     let At : Stop → Type 0 = λ s. H [] s in
-    let U : Stop → Type 0 = λ s. IsUntornStop s in
-    let untorn : U stop → tells → after ≡ before = λ u t. c.in-Err.ensures.same t (inr u) in
     (elim stop as (λ s. stop ≡ s → IsUnserved tells before s → Ends) [
       | Source ↦ λ is only. absurd only
       | Script ↦ λ is only. absurd only
       | Store ↦ λ is only.
-          ends_store tells rest before after failed left ⊥ old new rose journal steps status script only (untorn (subst U (sym is) tt))
+          ends_store tells before after failed left ⊥ old new rose journal steps status script only c.in-Err.ensures.same
           c.requires.entries c.requires.doubt (subst At is ends)
       | Bad block why ↦ λ is only.
-          ends_bad tells rest before after failed left ⊥ old new rose journal steps (record { block = block; why = why }) status script only (untorn (subst U (sym is) tt))
+          ends_bad tells before after failed left ⊥ old new rose journal steps (record { block = block; why = why }) status script only c.in-Err.ensures.same
           c.requires.entries c.requires.doubt (subst At is ends)
       | Drive h ↦ λ is only.
-          ends_unopened tells rest before after failed left ⊥ old new rose journal steps h status script (c.in-Err.ensures.stopped h is) (λ t r. c.in-Err.ensures.same t (inl r))
+          ends_unopened tells before after failed left ⊥ old new rose journal steps h status script (c.in-Err.ensures.stopped h is) c.in-Err.ensures.same
           c.requires.entries c.requires.doubt (subst At is ends)
       | Memory ↦ λ is only.
-          ends_stopped tells rest before after failed left ⊥ old new rose journal steps status c.requires.entries c.requires.doubt (subst At is ends)
+          ends_stopped tells before after failed left ⊥ old new rose journal steps status c.requires.entries c.requires.doubt (subst At is ends)
     ]) refl c.in-Err.ensures.unserved

@@ -1,7 +1,7 @@
 use Rattle.std.proofs.Common.{inl, inr, List, [], ap, subst, ◌∙◌, Err, IsErrOf}
 use Rattle.afs_base.specs.Causes.{Rose}
 use Rattle.drives.specs.declared.device.Half.{Half}
-use Rattle.drives.specs.Changes.{IsAtRest, halves_seen}
+use Rattle.drives.specs.Changes.{halves_seen}
 use Rattle.endings.specs.Printing.{HaltEnds}
 use Rattle.pair_store.specs.Content.{content_of}
 use Rattle.recovery.specs.Opening.{IsFailed}
@@ -18,7 +18,6 @@ use Rattle.afs_top.proofs.play.serve.Goals as goal
 pub returns-in-Err-clause-ends : goal.returns-in-Err-clause-ends
 returns-in-Err-clause-ends g c =
     let tells = g.V.Drives.tells in
-    let rest = IsAtRest g.V.Drives.seen g.V.Drives.moment g.V.Drives.may_leave c.args.drives in
     let before = found (content_of (halves_seen g.V.Drives.seen c.args.drives)) (g.V.Drives.size c.args.drives) in
     let Served : Type 0 = IsServed (content_of (halves_seen g.V.Drives.seen c.args.drives)) (g.V.Drives.size c.args.drives) in
     let failed : Half → Type 0 = λ h. IsFailed (g.V.Drives.faults c.args.drives) (g.V.Drives.faults c.args.drives) (g.V.Drives.last_fault c.args.drives) (g.V.Drives.moment c.args.drives) (tells → Served → ⊥) h in
@@ -36,14 +35,14 @@ returns-in-Err-clause-ends g c =
     elim c.in-Err.ensures.only [
       | inl is ↦
           let out : IsErrOf c.read_steps.result Source = c.in-Err.is ∙ ap (λ (s : Stop). Err s) is in
-          ends_source tells rest before before failed left source_rose old new rose journal status (c.read_steps.ensures.cause out) c.requires.entries c.requires.doubt (subst At is ends)
+          ends_source tells before before failed left source_rose old new rose journal status (c.read_steps.ensures.cause out) c.requires.entries c.requires.doubt (subst At is ends)
       | inr other ↦ elim other [
         | inl is ↦
             let out : IsErrOf c.read_steps.result Script = c.in-Err.is ∙ ap (λ (s : Stop). Err s) is in
-            ends_script tells rest before before failed left source_rose old new rose journal status (c.read_steps.ensures.shape out) c.requires.entries c.requires.doubt (subst At is ends)
+            ends_script tells before before failed left source_rose old new rose journal status (c.read_steps.ensures.shape out) c.requires.entries c.requires.doubt (subst At is ends)
         | inr is ↦ elim (subst At is ends) [
-          | inl end ↦ ends_empty tells rest before before failed left source_rose old new rose journal [] status c.requires.entries c.requires.doubt end.0 end.1
-          | inr end ↦ ends_empty tells rest before before failed left source_rose old new rose journal [] status c.requires.entries c.requires.doubt end.0 end.1
+          | inl end ↦ ends_empty tells before before failed left source_rose old new rose journal [] status c.requires.entries c.requires.doubt end.0 end.1
+          | inr end ↦ ends_empty tells before before failed left source_rose old new rose journal [] status c.requires.entries c.requires.doubt end.0 end.1
         ]
       ]
     ]

@@ -3,6 +3,7 @@ use Rattle.std.proofs.Common.{◌≡◌, ℕ, ◌<◌, ◌≤◌, List, Option, 
 use Rattle.afs_top.specs.Served.{IsNewTable, IsReady}
 use Rattle.afs_top.proofs.NewTest.{table_if}
 use Rattle.afs_top.proofs.Placing.{Live, blank_read, has_block, live_at, live_some, live_within, ready_is, served_state_is}
+use Rattle.afs_top.proofs.Room.{room}
 use Rattle.afs_top.proofs.served.find_place.Goals as goal
 
 pub returns-then-not-is_new_table-clause-unserved : goal.returns-then-not-is_new_table-clause-unserved
@@ -71,7 +72,7 @@ returns-in-Some-free_block-clause-ready g c = λ t.
     let blank = v.4.0 c.if-not-branch.false in
     let free = c.in-Some-free_block.ensures in
     let ready = ready_is content size c.args.table.now c.args.map.now c.args.heads.now x new c.in-Some.blocks.first c.in-Some.blocks.second a b v.0 v.1 v.2 v.3 blank.0 blank.1
-    c.in-Some-free_block.free free.0 free.1.0 free.1.1.0 free.1.1.1 in
+    c.in-Some-free_block.free free.0 free.1 free.2 free.3 in
     let same : after ≡ content = fun_ext (c.both_blank.ensures.same t) in
     let F : (ℕ → Option (List ℕ)) → Type 0 = λ f. IsReady f size c.in-Some.blocks.first c.in-Some-free_block.free in
     let N : ℕ → Type 0 = λ n. IsReady after n c.in-Some.blocks.first c.in-Some-free_block.free in
@@ -99,3 +100,12 @@ returns-in-None-clause-unserved g c = λ t is served.
     let a = has_block content size c.args.table.now c.args.map.now c.args.heads.now x new 0 zero_low in
     let b = has_block content size c.args.table.now c.args.map.now c.args.heads.now x new 1 one_low in
     c.in-None.ensures a.0 b.0 a.1 b.1
+
+pub returns-in-None-free_block-clause-unserved : goal.returns-in-None-free_block-clause-unserved
+returns-in-None-free_block-clause-unserved g c = λ t is served.
+    let content = g.B.Blocks.content c.args.store.now in
+    let size = g.B.Blocks.size c.args.store.now in
+    let x = c.requires.opened t in
+    let state = served_state_is content size c.args.table.now c.args.map.now c.args.heads.now x served in
+    let r = room content size c.args.table.now c.args.map.now c.args.heads.now x state c.in-Some.blocks.first in
+    r.4 (c.in-None-free_block.ensures r.0 r.1 r.2 r.3)
