@@ -15,10 +15,10 @@ without : (n : ℕ) (ns : List ℕ) → IsIn ns n → Without n ns
 without n [] here = absurd (none_in n here)
 without n (m ∷ ms) here = elim (in_cons m n ms here) [
   | inl same ↦ record {
-      others = ms;
-      size = refl;
-      kept = λ k apart i. elim (in_cons m k ms i) [ inl first ↦ absurd (apart (first ∙ sym same)) | inr later ↦ later ];
-    }
+    others = ms;
+    size = refl;
+    kept = λ k apart i. elim (in_cons m k ms i) [ inl first ↦ absurd (apart (first ∙ sym same)) | inr later ↦ later ];
+  }
   | inr behind ↦ (
       let w : Without n ms = without n ms behind in
       record {

@@ -11,8 +11,6 @@ mod read;
 mod script;
 mod served;
 mod stop;
-#[cfg(test)]
-mod tests;
 mod update;
 mod words;
 

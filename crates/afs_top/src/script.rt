@@ -133,6 +133,3 @@ pub(crate) fn parse(alloc: Global, text: &[u8]) -> Result<Vec<Step>, Stop>
         None => Err(Stop::Script),
     }
 }
-
-#[cfg(test)]
-mod tests;

@@ -1,7 +1,7 @@
 // Whole calls, against the answers and the bytes that the formats ask for.
 ghost use Rattle.std.specs.Prelude.{◌≡◌, ◌<◌, IfOk, vec_len};
 
-use crate::{Ended, afs_words};
+use afs_top::{Ended, afs_words};
 use drives::{Drives, Half, MemDrives, Memory, Pick};
 use page_codec::fresh_image;
 use script_text::{MemSink, MemSource};
@@ -9,9 +9,10 @@ use std::alloc::{AllocError, Global};
 use std::process::Abort;
 use std::test::Fail;
 
-mod commands;
 mod cuts;
 mod plays;
+mod scripts;
+mod sequences;
 
 /// The words of a call, and the scripts that come with it.
 type Call = (&'static [&'static str], &'static [&'static [u8]]);
@@ -98,7 +99,11 @@ fn words_of(alloc: Global, words: &[&str]) -> Result<Vec<String>, AllocError> {
     Ok(all)
 }
 
-fn sources_of(alloc: Global, scripts: &[&[u8]], fails: &[u64]) -> Result<Vec<MemSource>, AllocError> {
+fn sources_of(
+    alloc: Global,
+    scripts: &[&[u8]],
+    fails: &[u64],
+) -> Result<Vec<MemSource>, AllocError> {
     let mut all = Vec::new(alloc);
     for script in scripts {
         let fails = Vec::from_slice(alloc, fails)?;
@@ -154,10 +159,7 @@ const UPDATE: [(usize, &[u8]); 6] = [
     (3072 + 82, &[0, 0, 0, 0, 0, 0, 0, 1]),
     (3072 + 219, b"hi\0"),
     (1024, &[0xa5, 0x56, 0, 0]),
-    (
-        1024 + 70,
-        &[0, 0, 0, 1, 0, 0, 0, 0, 0, 0, 0, 1, 0, 0, 0, 3],
-    ),
+    (1024 + 70, &[0, 0, 0, 1, 0, 0, 0, 0, 0, 0, 0, 1, 0, 0, 0, 3]),
 ];
 
 fn holds_the_update(half: &[u8]) -> bool {

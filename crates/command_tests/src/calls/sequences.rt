@@ -10,11 +10,7 @@ const COMMANDS: [(Call, u8, &[u8]); 10] = [
     (SHOW, 0, NEW),
     (PLAY, 0, ANSWERS),
     (SHOW, 0, PLAYED),
-    (
-        CHECK,
-        0,
-        b"files 2 versions 3 blocks 3 free 60\n",
-    ),
+    (CHECK, 0, b"files 2 versions 3 blocks 3 free 60\n"),
     ((&["cap", "3", "1"], &[]), 0, b"denied object\n"),
     ((&["cap", "01", "1"], &[]), 1, b"usage\n"),
     (FORMAT, 0, b"file 1\nfile 2\n"),

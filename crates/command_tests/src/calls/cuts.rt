@@ -48,12 +48,7 @@ fn played_again(
 }
 
 /// Looks at what a crash leaves, and plays over it again. Answers whether the file has its version.
-fn crashed(
-    rt: &impl Abort,
-    alloc: Global,
-    drives: &MemDrives,
-    pick: Pick,
-) -> Result<bool, Fail> {
+fn crashed(rt: &impl Abort, alloc: Global, drives: &MemDrives, pick: Pick) -> Result<bool, Fail> {
     let done = is_played(rt, alloc, drives.image(drives.now(), pick)?)?;
     played_again(rt, alloc, drives.image(drives.now(), pick)?, done)?;
     Ok(done)

@@ -62,7 +62,10 @@ fn others(rt: HostRuntime) -> Result<(), Fail> {
         let (ended, out) = called(alloc, call, fails, drives)?;
         expect(&rt, ended.status.code(), &out, (code, text));
         // A fault of the sink leaves the update, and only that one play makes it.
-        assert_eq!(rt; holds_the_update(ended.drives.half_bytes(Half::B)), code == 5);
+        assert_eq!(rt;
+            holds_the_update(ended.drives.half_bytes(Half::B)),
+            code == 5
+        );
     }
     Ok(())
 }
