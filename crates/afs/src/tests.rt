@@ -68,6 +68,9 @@ fn files_of_any_length_get_an_answer(rt: HostRuntime) -> Result<(), Fail> {
         (0, 1024),
         (1024, 1025),
         (5000, 70000),
+        // The longest half that is looked at: 64 MiB, or 65,536 blocks.
+        (67108864, 1023),
+        (67108864, 67108864),
     ] {
         let bytes = vec![in alloc; 0xa5; a]?;
         fs::write(&rt, "a", bytes.as_slice()).ok().ok_or("write")?;
