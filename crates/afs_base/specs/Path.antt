@@ -1,8 +1,9 @@
-use Rattle.std.specs.Prelude.{ℕ, Bool, true, false, ◌&&◌, nat_eq, nat_lt, List, [], ◌∷◌, map}
+use Rattle.std.specs.Prelude.{ℕ, Bool, true, false, ◌&&◌, nat_eq, nat_lt, List, [], ◌∷◌}
 use Rattle.std.specs.List.{list_all}
 use Rattle.std.specs.declared.cmp.Ordering.{Ordering}
 use Rattle.std.specs.Ordering.{nat_cmp}
 use Rattle.std.specs.Cmp.Lexicographic.{slice_cmp}
+use Rattle.afs_base.specs.declared.limits.TheConstants.{SLOTS}
 
 -- paths are ordered as lists of slots, so a path stands before its extensions
 abbrev pub path_cmp : List ℕ → List ℕ → Ordering
@@ -14,11 +15,6 @@ is_prefix [] q = true
 is_prefix (s ∷ p) [] = false
 is_prefix (s ∷ p) (t ∷ q) = nat_eq s t && is_prefix p q
 
--- the prefixes of a path that are shorter than it, the shortest first
-abbrev pub proper_prefixes : List ℕ → List (List ℕ)
-proper_prefixes [] = []
-proper_prefixes (s ∷ p) = [] ∷ map (λ q. s ∷ q) (proper_prefixes p)
-
 -- each slot of the list is one of a page's sixteen
 abbrev pub are_slots : List ℕ → Bool
-are_slots slots = list_all (λ s. nat_lt s 16) slots
+are_slots slots = list_all (λ s. nat_lt s SLOTS) slots

@@ -1,5 +1,6 @@
 ghost use Rattle.std.specs.Prelude.{◌≡◌, ℕ, ◌^◌, ◌<◌, ◌≤◌, MatchResult};
 
+use crate::limits::BLOCK_NUMBERS;
 use std::marker::Model;
 use thiserror::Error;
 
@@ -10,11 +11,14 @@ pub struct BlockNo {
 }
 
 impl Model for BlockNo {
+    ghost use Rattle.std.specs.Prelude.{ℕ, ◌<◌};
+    ghost use Rattle.afs_base.specs.declared.limits.TheConstants.{BLOCK_NUMBERS};
+
     ghost Value = { ℕ };
 
     ghost view = { λ b. b.number };
 
-    ghost invariant = { λ b. b.number < 2 ^ 28 };
+    ghost invariant = { λ b. b.number < BLOCK_NUMBERS };
 
     ghost inverse = { λ n. record { number = n } };
 }
@@ -29,19 +33,28 @@ pub struct BlockRange {
 impl BlockNo {
     /// The block of this number, below 2^28; any other number is refused.
     pub fn of(n: u32) -> Result<BlockNo, BlockRange>
-        ensures { MatchResult result (λ b. (n < 2 ^ 28) × (b ≡ n)) (λ e. (2 ^ 28 ≤ n) × (e.n ≡ n)) }
+        ensures { MatchResult result (λ b. (n < BLOCK_NUMBERS) × (b ≡ n))
+            (λ e. (BLOCK_NUMBERS ≤ n) × (e.n ≡ n)) }
     {
-        if n < 1 << 28 {
+        if n < BLOCK_NUMBERS {
             Ok(BlockNo { number: n })
         } else {
             Err(BlockRange { n })
         }
     }
 
+    /// The block of this number, which is below 2^28.
+    pub fn at(n: u32) -> BlockNo
+        requires { n < BLOCK_NUMBERS }
+        ensures { result ≡ n }
+    {
+        BlockNo { number: n }
+    }
+
     /// The block's number, below 2^28.
     pub fn get(self) -> u32
         ensures value { result ≡ self }
-        ensures range { result < 2 ^ 28 }
+        ensures range { result < BLOCK_NUMBERS }
     {
         self.number
     }

@@ -1,5 +1,6 @@
 ghost use Rattle.std.specs.Prelude.{◌≡◌, ℕ, ◌<◌, ◌≤◌, ◌⊎◌, MatchResult};
 
+use crate::limits::MAX_CLIENTS;
 use std::marker::Model;
 use thiserror::Error;
 
@@ -10,11 +11,14 @@ pub struct ClientNo {
 }
 
 impl Model for ClientNo {
+    ghost use Rattle.std.specs.Prelude.{ℕ, ◌≤◌};
+    ghost use Rattle.afs_base.specs.declared.limits.TheConstants.{MAX_CLIENTS};
+
     ghost Value = { ℕ };
 
     ghost view = { λ c. c.number };
 
-    ghost invariant = { λ c. (1 ≤ c.number) × (c.number ≤ 16) };
+    ghost invariant = { λ c. (1 ≤ c.number) × (c.number ≤ MAX_CLIENTS) };
 
     ghost inverse = { λ n. record { number = n } };
 }
@@ -29,9 +33,10 @@ pub struct ClientRange {
 impl ClientNo {
     /// The client of this number, 1 to 16; any other number is refused.
     pub fn of(n: u8) -> Result<ClientNo, ClientRange>
-        ensures { MatchResult result (λ c. (1 ≤ n) × (n ≤ 16) × (c ≡ n)) (λ e. ((n ≡ 0) ⊎ (16 < n)) × (e.n ≡ n)) }
+        ensures { MatchResult result (λ c. (1 ≤ n) × (n ≤ MAX_CLIENTS) × (c ≡ n))
+            (λ e. ((n ≡ 0) ⊎ (MAX_CLIENTS < n)) × (e.n ≡ n)) }
     {
-        if n == 0 || n > 16 {
+        if n == 0 || n > MAX_CLIENTS {
             Err(ClientRange { n })
         } else {
             Ok(ClientNo { number: n })
@@ -49,7 +54,7 @@ impl ClientNo {
     pub fn get(self) -> u8
         ensures value { result ≡ self }
         ensures low { 1 ≤ result }
-        ensures high { result ≤ 16 }
+        ensures high { result ≤ MAX_CLIENTS }
     {
         self.number
     }

@@ -58,7 +58,8 @@ impl Ord for Kind {
 impl PartialOrd for Kind {
     ghost partial_cmp = { as_partial_cmp (on kind_place nat_cmp) };
 
-    ghost laws = { partial_order_from_own_ties (Prim.search (comparing, rules)) (Prim.search (comparing, rules)) };
+    ghost laws = { partial_order_from_own_ties (Prim.search (comparing, rules))
+        (Prim.search (comparing, rules)) };
 
     fn partial_cmp(&self, other: &Kind) -> Option<Ordering> {
         Some(self.cmp(other))

@@ -2,10 +2,8 @@ ghost use Rattle.std.specs.Prelude.{◌≡◌, ℕ, ◌≤◌, [], length, nat_e
 ghost use Rattle.std.proofs.lemmas.Cmp.{nat_list_eq_equiv};
 ghost use lib.Pointwise.{pointwise};
 
+use crate::limits::MAX_DATA;
 use std::marker::Model;
-
-/// The most bytes that a page holds.
-pub const MAX_DATA: usize = 800;
 
 /// The data of a page: at most 800 bytes. Contracts see the list of the bytes.
 #[derive(Clone, Copy, Debug)]
@@ -17,17 +15,23 @@ pub struct PageData {
 
 impl Model for PageData {
     ghost use Rattle.std.specs.Prelude.{List, ℕ, length, take};
-    ghost use Rattle.afs_base.specs.Filled.{filled, filled-take, IsFilled, length-used};
+    ghost use Rattle.afs_base.specs.declared.limits.TheConstants.{MAX_DATA};
+    ghost use Rattle.afs_base.specs.Filled.{filled, IsFilled};
+    ghost use Rattle.afs_base.specs.FilledBack.{filled-take, length-used};
 
     ghost Value = { List ℕ };
 
     ghost view = { λ d. take d.len d.places };
 
-    ghost invariant = { λ d. IsFilled 800 d.len d.places };
+    ghost invariant = { λ d. IsFilled MAX_DATA d.len d.places };
 
-    ghost inverse = { λ xs. record { places = filled 800 xs; len = length xs } };
+    ghost inverse = { λ xs. record { places = filled MAX_DATA xs; len = length xs } };
 
-    ghost inverse_ok = { λ d h i. record { places = filled-take 800 d.len d.places h i; len = length-used 800 d.len d.places h i } };
+    ghost inverse_ok = { λ d h i. record {
+      places = filled-take MAX_DATA d.len d.places h i;
+      len =
+          length-used MAX_DATA d.len d.places h i;
+    } };
 }
 
 impl PageData {
@@ -43,7 +47,7 @@ impl PageData {
 
     /// These bytes, at most 800.
     pub fn of(bytes: &[u8]) -> PageData
-        requires { length bytes.now ≤ 800 }
+        requires { length bytes.now ≤ MAX_DATA }
         ensures { result ≡ bytes.now }
     {
         let mut places = [0; MAX_DATA];
@@ -57,7 +61,7 @@ impl PageData {
     /// The bytes, at most 800.
     pub fn bytes(&self) -> &[u8]
         ensures value { result.now ≡ self.now }
-        ensures short { length result.now ≤ 800 }
+        ensures short { length result.now ≤ MAX_DATA }
     {
         &self.places[..self.len]
     }

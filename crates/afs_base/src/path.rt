@@ -5,13 +5,11 @@ ghost use Rattle.std.proofs.lemmas.Cmp.{nat_list_cmp_total, nat_list_eq_equiv};
 ghost use lib.Pointwise.{pointwise};
 ghost use Rattle.afs_base.specs.Path.{are_slots, is_prefix, path_cmp};
 
+use crate::limits::MAX_DEPTH;
 use crate::slot::Slot;
 use std::cmp::Ordering;
 use std::marker::Model;
 use thiserror::Error;
-
-/// The most slots that a path has.
-pub const MAX_DEPTH: usize = 7;
 
 /// The way from a version's root to one of its pages: a list of at most seven slots. The root's is empty.
 /// Contracts see the list of the slots' numbers. Paths are ordered as lists.
@@ -24,18 +22,24 @@ pub struct Path {
 
 impl Model for Path {
     ghost use Rattle.std.specs.Prelude.{◌≡◌, List, ℕ, length, take, true};
-    ghost use Rattle.afs_base.specs.Filled.{filled, filled-take, IsFilled, length-used};
+    ghost use Rattle.afs_base.specs.declared.limits.TheConstants.{MAX_DEPTH};
+    ghost use Rattle.afs_base.specs.Filled.{filled, IsFilled};
+    ghost use Rattle.afs_base.specs.FilledBack.{filled-take, length-used};
     ghost use Rattle.afs_base.specs.Path.{are_slots};
 
     ghost Value = { List ℕ };
 
     ghost view = { λ p. take p.len p.slots };
 
-    ghost invariant = { λ p. IsFilled 7 p.len p.slots × (are_slots p.slots ≡ true) };
+    ghost invariant = { λ p. IsFilled MAX_DEPTH p.len p.slots × (are_slots p.slots ≡ true) };
 
-    ghost inverse = { λ xs. record { slots = filled 7 xs; len = length xs } };
+    ghost inverse = { λ xs. record { slots = filled MAX_DEPTH xs; len = length xs } };
 
-    ghost inverse_ok = { λ p h i. record { slots = filled-take 7 p.len p.slots h.0 i; len = length-used 7 p.len p.slots h.0 i } };
+    ghost inverse_ok = { λ p h i. record {
+      slots = filled-take MAX_DEPTH p.len p.slots h.0 i;
+      len =
+          length-used MAX_DEPTH p.len p.slots h.0 i;
+    } };
 }
 
 /// The path has seven slots already, so it has no child.
@@ -57,7 +61,7 @@ impl Path {
     /// How many slots the path has, 0 to 7.
     pub fn len(&self) -> usize
         ensures value { result ≡ length self.now }
-        ensures short { result ≤ 7 }
+        ensures short { result ≤ MAX_DEPTH }
         ensures slots { are_slots self.now ≡ true }
     {
         self.len
@@ -88,22 +92,31 @@ impl Path {
     /// The path of the page in a slot of this path's page; refused exactly at seven slots.
     pub fn child(&self, slot: Slot) -> Result<Path, TooDeep>
         ensures child { IfOk result (λ p. p ≡ self.now ++ slot ∷ []) }
-        ensures deep { IsErr result ↔ (length self.now ≡ 7) }
+        ensures deep { IsErr result ↔ (length self.now ≡ MAX_DEPTH) }
     {
-        if self.len == MAX_DEPTH {
+        if self.len() == MAX_DEPTH {
             return Err(TooDeep);
         }
+        Ok(self.below(slot))
+    }
+
+    /// The path of the page in a slot of this path's page, where this path has fewer than seven slots.
+    pub fn below(&self, slot: Slot) -> Path
+        requires { length self.now < MAX_DEPTH }
+        ensures { result ≡ self.now ++ slot ∷ [] }
+    {
         // A slot that is read is known to be below 16.
         let _number = slot.get();
-        let mut child = *self;
-        child.slots[self.len] = slot;
-        child.len = self.len + 1;
-        Ok(child)
+        let mut below = *self;
+        below.slots[self.len] = slot;
+        below.len = self.len + 1;
+        below
     }
 
     /// The path without its last slot; none exactly for `/`.
     pub fn parent(&self) -> Option<Path>
-        ensures { MatchOption result (self.now ≡ []) (λ p. (last : ℕ) × (p ++ last ∷ [] ≡ self.now)) }
+        ensures { MatchOption result (self.now ≡ [])
+            (λ p. (last : ℕ) × (p ++ last ∷ [] ≡ self.now)) }
     {
         if self.len == 0 {
             return None;
@@ -119,6 +132,15 @@ impl Path {
         ensures { result ≡ is_prefix self.now other.now }
     {
         other.as_slice().starts_with(self.as_slice())
+    }
+}
+
+/// The empty path, `/`.
+impl Default for Path {
+    ghost is_default = { λ p. p ≡ [] };
+
+    fn default() -> Path {
+        Path::root()
     }
 }
 

@@ -1,5 +1,6 @@
 ghost use Rattle.std.specs.Prelude.{◌≡◌, ℕ, ◌<◌, ◌≤◌, IfOk, IfErr, MatchResult};
 
+use crate::limits::SLOTS;
 use std::marker::Model;
 use thiserror::Error;
 
@@ -10,11 +11,14 @@ pub struct Slot {
 }
 
 impl Model for Slot {
+    ghost use Rattle.std.specs.Prelude.{ℕ, ◌<◌};
+    ghost use Rattle.afs_base.specs.declared.limits.TheConstants.{SLOTS};
+
     ghost Value = { ℕ };
 
     ghost view = { λ s. s.number };
 
-    ghost invariant = { λ s. s.number < 16 };
+    ghost invariant = { λ s. s.number < SLOTS };
 
     ghost inverse = { λ n. record { number = n } };
 }
@@ -29,13 +33,21 @@ pub struct SlotRange {
 impl Slot {
     /// The slot of this number, 0 to 15; any other number is refused.
     pub fn of(n: u8) -> Result<Slot, SlotRange>
-        ensures { MatchResult result (λ s. (n < 16) × (s ≡ n)) (λ e. (16 ≤ n) × (e.n ≡ n)) }
+        ensures { MatchResult result (λ s. (n < SLOTS) × (s ≡ n)) (λ e. (SLOTS ≤ n) × (e.n ≡ n)) }
     {
-        if n < 16 {
+        if usize::from(n) < SLOTS {
             Ok(Slot { number: n })
         } else {
             Err(SlotRange { n })
         }
+    }
+
+    /// The slot of this number, which is below 16.
+    pub fn at(n: u8) -> Slot
+        requires { n < SLOTS }
+        ensures { result ≡ n }
+    {
+        Slot { number: n }
     }
 
     /// Slot 0.
@@ -48,7 +60,7 @@ impl Slot {
     /// The slot's number, 0 to 15.
     pub fn get(self) -> u8
         ensures value { result ≡ self }
-        ensures range { result < 16 }
+        ensures range { result < SLOTS }
     {
         self.number
     }
