@@ -1,8 +1,9 @@
 -- The codes of lawful flags, both ways.
 use Rattle.std.proofs.Common.{◌≡◌, ℕ, zero, suc, ◌≤◌, Bool, true, false, refl, arith}
-use Rattle.std.specs.Prelude.{IsTrue}
+use Rattle.std.specs.Prelude.{IsTrue, Some, slice_get}
 use Rattle.ref_flags.specs.Flagged.{Flagged, is_lawful}
 use Rattle.ref_flags.specs.Codes.{code_of, flags_of}
+use Rattle.ref_flags.specs.Table.{rows}
 
 abbrev flagged : Bool → Bool → Bool → Bool → Bool → Flagged
 flagged c r w s m = record { copied = c; read = r; written = w; searched = s; modified = m }
@@ -80,3 +81,40 @@ is_lawful-flags_of (suc (suc (suc (suc (suc (suc (suc (suc (suc (suc zero)))))))
 is_lawful-flags_of (suc (suc (suc (suc (suc (suc (suc (suc (suc (suc (suc zero))))))))))) h = refl
 is_lawful-flags_of (suc (suc (suc (suc (suc (suc (suc (suc (suc (suc (suc (suc zero)))))))))))) h = refl
 is_lawful-flags_of (suc (suc (suc (suc (suc (suc (suc (suc (suc (suc (suc (suc (suc n))))))))))))) h = absurd (omega arith)
+
+row : (c r w s m : Bool) → IsTrue (is_lawful (flagged c r w s m)) → slice_get rows (code_of (flagged c r w s m)) ≡ Some (flagged c r w s m)
+row false false false false false h = refl
+row true false false false false h = refl
+row true false false true false h = refl
+row true false false true true h = refl
+row true true false false false h = refl
+row true true false true false h = refl
+row true true false true true h = refl
+row true false true false false h = refl
+row true false true true false h = refl
+row true false true true true h = refl
+row true true true false false h = refl
+row true true true true false h = refl
+row true true true true true h = refl
+row c r w s m h = absurd cc
+
+-- lawful flags are the row of the table that has their code as its number
+pub slice_get-rows : (f : Flagged) → IsTrue (is_lawful f) → slice_get rows (code_of f) ≡ Some f
+slice_get-rows f h = row f.copied f.read f.written f.searched f.modified h
+
+-- a code from 0 to 12 stands for the row that has it as its number
+pub slice_get-rows-flags_of : (n : ℕ) → n ≤ 12 → slice_get rows n ≡ Some (flags_of n)
+slice_get-rows-flags_of zero h = refl
+slice_get-rows-flags_of (suc zero) h = refl
+slice_get-rows-flags_of (suc (suc zero)) h = refl
+slice_get-rows-flags_of (suc (suc (suc zero))) h = refl
+slice_get-rows-flags_of (suc (suc (suc (suc zero)))) h = refl
+slice_get-rows-flags_of (suc (suc (suc (suc (suc zero))))) h = refl
+slice_get-rows-flags_of (suc (suc (suc (suc (suc (suc zero)))))) h = refl
+slice_get-rows-flags_of (suc (suc (suc (suc (suc (suc (suc zero))))))) h = refl
+slice_get-rows-flags_of (suc (suc (suc (suc (suc (suc (suc (suc zero)))))))) h = refl
+slice_get-rows-flags_of (suc (suc (suc (suc (suc (suc (suc (suc (suc zero))))))))) h = refl
+slice_get-rows-flags_of (suc (suc (suc (suc (suc (suc (suc (suc (suc (suc zero)))))))))) h = refl
+slice_get-rows-flags_of (suc (suc (suc (suc (suc (suc (suc (suc (suc (suc (suc zero))))))))))) h = refl
+slice_get-rows-flags_of (suc (suc (suc (suc (suc (suc (suc (suc (suc (suc (suc (suc zero)))))))))))) h = refl
+slice_get-rows-flags_of (suc (suc (suc (suc (suc (suc (suc (suc (suc (suc (suc (suc (suc n))))))))))))) h = absurd (omega arith)

@@ -1,9 +1,10 @@
 //! What an update did at a path of a page tree, and its code of four bits in a reference.
 #![tactic(auto)]
 
-ghost use Rattle.std.specs.Prelude.{◌≡◌, ◌<◌, ◌≤◌, MatchResult};
+ghost use Rattle.std.specs.Prelude.{◌≡◌, ◌<◌, ◌≤◌, slice_get, Some, IfOk, MatchResult};
 ghost use Rattle.ref_flags.specs.Flagged.{no_flags};
 ghost use Rattle.ref_flags.specs.Codes.{code_of, flags_of, with_mark};
+ghost use Rattle.ref_flags.specs.Table.{rows};
 
 use std::marker::Model;
 use thiserror::Error;
@@ -29,11 +30,32 @@ impl Model for Flags {
 
     ghost Value = { Flagged };
 
-    ghost view = { λ f. record { copied = f.copied; read = f.read; written = f.written; searched = f.searched; modified = f.modified } };
+    ghost view = { λ f. record {
+      copied = f.copied;
+      read = f.read;
+      written = f.written;
+      searched =
+          f.searched;
+      modified = f.modified;
+    } };
 
-    ghost invariant = { λ f. IsTrue (is_lawful (record { copied = f.copied; read = f.read; written = f.written; searched = f.searched; modified = f.modified })) };
+    ghost invariant = { λ f. IsTrue (is_lawful (record {
+      copied = f.copied;
+      read = f.read;
+      written
+          = f.written;
+      searched = f.searched;
+      modified = f.modified;
+    })) };
 
-    ghost inverse = { λ f. record { copied = f.copied; read = f.read; written = f.written; searched = f.searched; modified = f.modified } };
+    ghost inverse = { λ f. record {
+      copied = f.copied;
+      read = f.read;
+      written = f.written;
+      searched
+          = f.searched;
+      modified = f.modified;
+    } };
 }
 
 /// One thing that an update can do at a path.
@@ -121,8 +143,10 @@ impl Flags {
         flags
     }
 
-    /// The code, 0 to 12.
+    /// The code, 0 to 12: the number of the row of the table that has these flags.
     pub fn code(self) -> u8
+        ensures row { slice_get rows result ≡ Some self }
+        // The same in numbers.
         ensures value { result ≡ code_of self }
         ensures most { result ≤ 12 }
         ensures back { flags_of result ≡ self }
@@ -138,9 +162,11 @@ impl Flags {
         1 + 3 * (u8::from(self.read) + 2 * u8::from(self.written)) + slots
     }
 
-    /// The flags of a code; an error exactly where it is above 12.
+    /// The flags of a code, which are the row of the table that has this number; an error exactly where it is above 12.
     pub fn of_code(code: u8) -> Result<Self, NotAFlagCode>
-        ensures { MatchResult result
+        ensures row { IfOk result (λ f. slice_get rows code ≡ Some f) }
+        // The same in numbers.
+        ensures value { MatchResult result
             (λ f. (code ≤ 12) × (f ≡ flags_of code) × (code_of f ≡ code))
             (λ e. (12 < code) × (e.code ≡ code)) }
     {
