@@ -1,5 +1,6 @@
 -- What is empty: slots, pages, entries and parts.
 use Rattle.std.specs.Prelude.{ℕ, Option, None, List, [], replicate}
+use Rattle.afs_base.specs.declared.limits.TheConstants.{PARTS, SECRET_BYTES, SLOTS}
 use Rattle.ref_flags.specs.Flagged.{no_flags}
 use Rattle.page_codec.specs.Numbers.{zeros}
 use Rattle.page_codec.specs.Values.{ReferenceValue, PageValue, EntryValue}
@@ -10,7 +11,7 @@ empty_reference = record { flags = no_flags; block = None }
 
 -- sixteen slots that name no page
 unfoldable pub empty_slots : List ReferenceValue
-empty_slots = replicate 16 empty_reference
+empty_slots = replicate SLOTS empty_reference
 
 -- a page of some level with no data and no slots in use
 abbrev pub empty_page : ℕ → PageValue
@@ -18,7 +19,7 @@ empty_page level = record { level = level; modified = 0; refs = empty_slots; byt
 
 -- an entry where no file ever was
 abbrev pub no_entry : EntryValue
-no_entry = record { first = None; generation = 0; secret = zeros 8 }
+no_entry = record { first = None; generation = 0; secret = zeros SECRET_BYTES }
 
 -- so many of them
 unfoldable pub no_entries : ℕ → List EntryValue
@@ -26,4 +27,4 @@ no_entries count = replicate count no_entry
 
 -- no part has a block
 unfoldable pub no_parts : List (Option ℕ)
-no_parts = replicate 64 None
+no_parts = replicate PARTS None

@@ -2,6 +2,7 @@
 use Rattle.std.specs.Prelude.{ℕ, ◌*◌, Some, None, List, [], ◌++◌, map, take, nat_le, if◌then◌else◌}
 use Rattle.std.specs.List.{range_with_len}
 use Rattle.std.specs.Int.{w32, w64}
+use Rattle.afs_base.specs.declared.limits.TheConstants.{BLOCK_BYTES, ROOT_ENTRIES, SECRET_BYTES}
 use Rattle.sha2.specs.Sha256.{sha256}
 use Rattle.ref_flags.specs.Flagged.{no_flags}
 use Rattle.page_codec.specs.Numbers.{big_endian, field}
@@ -14,7 +15,7 @@ new_version object = record { root = no_flags; page = empty_page 0; object = obj
 
 -- the secret of a file of a generation: the first eight bytes of the digest of the key, the object and the generation
 unfoldable pub secret_of : ℕ → ℕ → ℕ → List ℕ
-secret_of key object generation = take 8 (sha256 (big_endian w64 key ++ big_endian w32 object ++ big_endian w32 generation))
+secret_of key object generation = take SECRET_BYTES (sha256 (big_endian w64 key ++ big_endian w32 object ++ big_endian w32 generation))
 
 -- the entry of an object in a new store: file i has its first version in block i
 abbrev pub new_entry : ℕ → ℕ → ℕ → EntryValue
@@ -25,7 +26,7 @@ new_entry files key object =
 
 -- the sixty entries of a new store
 unfoldable pub new_entries : ℕ → ℕ → List EntryValue
-new_entries files key = map (new_entry files key) (range_with_len 1 60)
+new_entries files key = map (new_entry files key) (range_with_len 1 ROOT_ENTRIES)
 
 -- block 0 of a new store
 abbrev pub new_root : ℕ → ℕ → ℕ → RootValue
@@ -33,4 +34,4 @@ new_root files blocks key = record { format = 1; blocks = blocks; key = key; par
 
 -- the block of a number in the bytes of a half
 abbrev pub block_of : ℕ → List ℕ → List ℕ
-block_of n bytes = field (1024 * n) 1024 bytes
+block_of n bytes = field (BLOCK_BYTES * n) BLOCK_BYTES bytes

@@ -11,21 +11,27 @@ ghost use Rattle.page_codec.specs.Causes.{Reads, first_cause, page_causes, versi
 ghost use Rattle.page_codec.specs.Facts.{FrameFacts, PageFacts, VersionFacts};
 
 use crate::Block;
-use crate::encode::{PAGE, VERSION};
+use crate::layout::{
+    BASE_AT, COMMIT_AT, COUNT_AT, DATA_AT, LENGTH_AT, MASK_AT, MEMBERS_AT, OBJECT_AT, PAGE,
+    REST_AT, SERIAL_AT, VERSION,
+};
 use crate::member::Member;
 use crate::members::Members;
-use crate::page::{Page, SLOTS};
+use crate::page::Page;
 use crate::read::{has_other, u16_at, u32_at, u64_at};
-use crate::root::block_no;
 use crate::slots::{
     block_or_none, has_bad_code, has_bad_reference, has_dangling, references_of, slots_of,
 };
 use crate::version::VersionPage;
 use crate::why::{BadPage, Why};
-use afs_base::PageData;
+use afs_base::{
+    BLOCK_BYTES, BLOCK_NUMBERS, BlockNo, MAX_DATA, MAX_DEPTH, MAX_MEMBERS, OPEN_GATE, PageData,
+    SLOTS,
+};
 use ref_flags::Flags;
 
-/// The first cause whose test is true.
+/// The first cause whose test is true. The tests of this crate are joined by `|` and `&`: a list of them is then one value,
+/// with no branch in it.
 pub fn first_cause(causes: &[(bool, Why)]) -> Option<Why>
     ensures { result ≡ first_cause causes.now }
 {
@@ -41,17 +47,20 @@ pub fn first_cause(causes: &[(bool, Why)]) -> Option<Why>
 fn has_other_past(block: &Block) -> bool
     ensures { result ≡ has_other_past block.now }
 {
-    let len = u16_at(block, 68) as usize;
-    has_other(block, 219 + len, 1019) | has_other(block, 1021, 1024)
+    let len = u16_at(block, LENGTH_AT) as usize;
+    has_other(block, DATA_AT + len, MASK_AT) | has_other(block, REST_AT, BLOCK_BYTES)
 }
 
 /// Whether the member in eight bytes has no object, or a block that is none.
 fn is_bad_member(bytes: &[u8], at: usize) -> bool
     requires { at + 8 ≤ length bytes.now }
-    ensures { result ≡ is_bad_member (record { object = number_at w32 at bytes.now; block = number_at w32 (at + 4) bytes.now }) }
+    ensures { result ≡ is_bad_member (record {
+      object = number_at w32 at bytes.now;
+      block = number_at w32 (at + 4) bytes.now;
+    }) }
 {
     let block = u32_at(bytes, at + 4);
-    (u32_at(bytes, at) == 0) | ((block == 0) | (block >= 0x1000_0000))
+    (u32_at(bytes, at) == 0) | ((block == 0) | (block >= BLOCK_NUMBERS))
 }
 
 /// Whether one of so many members is bad.
@@ -71,13 +80,13 @@ fn is_any_bad(bytes: &[u8], count: usize) -> bool
 fn has_bad_members(block: &Block) -> bool
     ensures { result ≡ has_bad_members block.now }
 {
-    let count = block[90];
-    if count > 16 {
+    let count = block[COUNT_AT] as usize;
+    if count > MAX_MEMBERS {
         return true;
     }
     let bytes: &[u8] = block;
-    let (_, members) = bytes.split_at(91);
-    is_any_bad(members, count as usize)
+    let (_, members) = bytes.split_at(MEMBERS_AT);
+    is_any_bad(members, count)
 }
 
 /// The first cause for which the block is no page below `/`.
@@ -87,13 +96,19 @@ fn page_cause(block: &Block, numbers: &[u32; SLOTS]) -> Option<Why>
     ensures { result ≡ first_cause (page_causes block.now) }
 {
     first_cause(&[
-        (block[0] != 0xa5, Why::Closed),
+        (block[0] != OPEN_GATE, Why::Closed),
         (block[1] != PAGE, Why::Kind),
-        ((block[2] == 0) | (block[2] > 7), Why::Level),
+        (
+            (block[2] == 0) | (usize::from(block[2]) > MAX_DEPTH),
+            Why::Level,
+        ),
         ((block[3] != 0) | has_bad_code(numbers), Why::Code),
         (has_bad_reference(block[2], numbers), Why::Reference),
-        (u16_at(block, 68) > 800, Why::Length),
-        (has_other(block, 70, 219) | has_other_past(block), Why::Zero),
+        (u16_at(block, LENGTH_AT) as usize > MAX_DATA, Why::Length),
+        (
+            has_other(block, OBJECT_AT, DATA_AT) | has_other_past(block),
+            Why::Zero,
+        ),
     ])
 }
 
@@ -103,24 +118,24 @@ fn version_cause(block: &Block, numbers: &[u32; SLOTS]) -> Option<Why>
     requires { numbers.now ≡ slots block.now }
     ensures { result ≡ first_cause (version_causes block.now) }
 {
-    let commit = u32_at(block, 82);
-    let base = u32_at(block, 86);
-    let members_end = 91 + 8 * block[90] as usize;
+    let commit = u32_at(block, COMMIT_AT);
+    let base = u32_at(block, BASE_AT);
+    let members_end = MEMBERS_AT + 8 * block[COUNT_AT] as usize;
     first_cause(&[
-        (block[0] != 0xa5, Why::Closed),
+        (block[0] != OPEN_GATE, Why::Closed),
         (block[1] != VERSION, Why::Kind),
         (block[2] != 0, Why::Level),
         ((block[3] > 12) | has_bad_code(numbers), Why::Code),
         (
-            has_dangling(numbers) | ((commit >= 0x1000_0000) | (base >= 0x1000_0000)),
+            has_dangling(numbers) | ((commit >= BLOCK_NUMBERS) | (base >= BLOCK_NUMBERS)),
             Why::Reference,
         ),
-        (u16_at(block, 68) > 800, Why::Length),
-        (u32_at(block, 70) == 0, Why::Object),
-        (u64_at(block, 74) == 0, Why::Serial),
+        (u16_at(block, LENGTH_AT) as usize > MAX_DATA, Why::Length),
+        (u32_at(block, OBJECT_AT) == 0, Why::Object),
+        (u64_at(block, SERIAL_AT) == 0, Why::Serial),
         (has_bad_members(block), Why::Member),
         (
-            has_other(block, members_end, 219) | has_other_past(block),
+            has_other(block, members_end, DATA_AT) | has_other_past(block),
             Why::Zero,
         ),
     ])
@@ -133,13 +148,13 @@ fn frame_at(block: &Block, numbers: &[u32; SLOTS]) -> Page
     requires facts { FrameFacts block.now }
     ensures { result ≡ frame_value block.now }
 {
-    let len = u16_at(block, 68) as usize;
+    let len = u16_at(block, LENGTH_AT) as usize;
     let bytes: &[u8] = block;
-    let (_, rest) = bytes.split_at(219);
+    let (_, rest) = bytes.split_at(DATA_AT);
     let (bytes, _) = rest.split_at(len);
     Page {
         level: block[2],
-        modified: u16_at(block, 1019),
+        modified: u16_at(block, MASK_AT),
         refs: references_of(numbers),
         bytes: PageData::of(bytes),
     }
@@ -148,19 +163,25 @@ fn frame_at(block: &Block, numbers: &[u32; SLOTS]) -> Page
 /// The member in eight bytes, which is not bad.
 fn member_at(bytes: &[u8], at: usize) -> Member
     requires room { at + 8 ≤ length bytes.now }
-    requires good { is_bad_member (record { object = number_at w32 at bytes.now; block = number_at w32 (at + 4) bytes.now }) ≡ false }
-    ensures { result ≡ record { object = number_at w32 at bytes.now; block = number_at w32 (at + 4) bytes.now } }
+    requires good { is_bad_member (record {
+      object = number_at w32 at bytes.now;
+      block = number_at w32 (at + 4) bytes.now;
+    }) ≡ false }
+    ensures { result ≡ record {
+      object = number_at w32 at bytes.now;
+      block = number_at w32 (at + 4) bytes.now;
+    } }
 {
     Member {
         object: u32_at(bytes, at),
-        block: block_no(u32_at(bytes, at + 4)),
+        block: BlockNo::at(u32_at(bytes, at + 4)),
     }
 }
 
 /// So many members, none of which is bad.
 fn members_from(bytes: &[u8], count: usize) -> Members
     requires room { 8 * count ≤ length bytes.now }
-    requires few { count ≤ 16 }
+    requires few { count ≤ MAX_MEMBERS }
     requires good { list_any is_bad_member (map member_value (pieces 8 count bytes.now)) ≡ false }
     ensures { result ≡ map member_value (pieces 8 count bytes.now) }
 {
@@ -183,15 +204,15 @@ fn version_at(block: &Block, numbers: &[u32; SLOTS]) -> VersionPage
         Err(_) => unreachable!(),
     };
     let bytes: &[u8] = block;
-    let (_, members) = bytes.split_at(91);
+    let (_, members) = bytes.split_at(MEMBERS_AT);
     VersionPage {
         root,
         page: frame_at(block, numbers),
-        object: u32_at(block, 70),
-        serial: u64_at(block, 74),
-        commit: block_or_none(u32_at(block, 82)),
-        base: block_or_none(u32_at(block, 86)),
-        members: members_from(members, block[90] as usize),
+        object: u32_at(block, OBJECT_AT),
+        serial: u64_at(block, SERIAL_AT),
+        commit: block_or_none(u32_at(block, COMMIT_AT)),
+        base: block_or_none(u32_at(block, BASE_AT)),
+        members: members_from(members, block[COUNT_AT] as usize),
     }
 }
 
@@ -234,7 +255,8 @@ pub fn decode_version(block: &Block) -> Result<VersionPage, BadPage>
     // What is read is spelled so.
     ensures found { IfOk result (λ v. IsVersion v × (block.now ≡ version_bytes v)) }
     // What is spelled so is read.
-    ensures only { (v : VersionValue) → IsVersion v → block.now ≡ version_bytes v → Reads result (Ok v) }
+    ensures only { (v : VersionValue) → IsVersion v → block.now ≡ version_bytes v
+        → Reads result (Ok v) }
     // Which cause it is.
     ensures exact { Reads result (version_of block.now) }
 {

@@ -4,7 +4,7 @@ use afs_base::BlockNo;
 use std::marker::Model;
 
 /// Another file whose version page is to be linked together with the one that names it. Neither number is 0.
-#[derive(Clone, Copy, Debug)]
+#[derive(Clone, Copy, Debug, PartialEq, Eq)]
 pub struct Member {
     pub object: u32,
     pub block: BlockNo,

@@ -1,22 +1,16 @@
 ghost use Rattle.std.specs.Prelude.{◌≡◌, ◌==◌, ◌<◌, ◌≤◌, [], ◌∷◌, ◌++◌, length, slice_get, Some};
 
 use crate::member::Member;
-use afs_base::BlockNo;
+use afs_base::{BlockNo, MAX_MEMBERS};
 use arrayvec::ArrayVec;
 use std::marker::Model;
-
-/// The most members that a version page names.
-pub const MAX_MEMBERS: usize = 16;
 
 /// What an unused place holds.
 impl Default for Member {
     fn default() -> Member {
         Member {
             object: 1,
-            block: match BlockNo::of(1) {
-                Ok(block) => block,
-                Err(_) => unreachable!(),
-            },
+            block: BlockNo::at(1),
         }
     }
 }
@@ -48,7 +42,7 @@ impl Members {
 
     /// Adds a member at the end.
     pub fn push(&mut self, member: Member)
-        requires { length self.old < 16 }
+        requires { length self.old < MAX_MEMBERS }
         ensures { self.new ≡ self.old ++ member ∷ [] }
     {
         self.list.push(member);
@@ -56,7 +50,7 @@ impl Members {
 
     pub fn len(&self) -> usize
         ensures value { result ≡ length self.now }
-        ensures most { result ≤ 16 }
+        ensures most { result ≤ MAX_MEMBERS }
     {
         self.list.as_slice().len()
     }
@@ -78,7 +72,7 @@ impl Members {
     /// All of them, in order.
     pub fn as_slice(&self) -> &[Member]
         ensures value { result.now ≡ self.now }
-        ensures most { length result.now ≤ 16 }
+        ensures most { length result.now ≤ MAX_MEMBERS }
     {
         self.list.as_slice()
     }

@@ -58,6 +58,7 @@ pub fn put_u64(block: &mut Block, at: usize, number: u64) -> usize
     requires { at + 8 ≤ 1024 }
     ensures next { result ≡ at + 8 }
     ensures front { take result block.new ≡ take at block.old ++ big_endian w64 number }
+    ensures fits { number < 2 ^ 64 }
 {
     put(block, at, &number.to_be_bytes())
 }

@@ -7,25 +7,27 @@ ghost use Rattle.page_codec.specs.TableReading.{raw_value, raw_entries, entry_va
 
 use crate::Block;
 use crate::entry::TableEntry;
+use crate::layout::ENTRIES_AT;
 use crate::read::{is_any_used, u32_at};
 use crate::slots::block_or_none;
+use afs_base::{BLOCK_NUMBERS, PART_ENTRIES, ROOT_ENTRIES, SECRET_BYTES};
 
 /// An entry's numbers and secret.
 #[derive(Clone, Copy)]
 pub struct RawEntry {
     pub first: u32,
     pub generation: u32,
-    pub secret: [u8; 8],
+    pub secret: [u8; SECRET_BYTES],
 }
 
 /// The eight bytes at a place.
-fn secret_at(bytes: &[u8], at: usize) -> [u8; 8]
-    requires { at + 8 ≤ length bytes.now }
-    ensures { result ≡ field at 8 bytes.now }
+fn secret_at(bytes: &[u8], at: usize) -> [u8; SECRET_BYTES]
+    requires { at + SECRET_BYTES ≤ length bytes.now }
+    ensures { result ≡ field at SECRET_BYTES bytes.now }
 {
     let (_, rest) = bytes.split_at(at);
-    let (secret, _) = rest.split_at(8);
-    let mut copy = [0; 8];
+    let (secret, _) = rest.split_at(SECRET_BYTES);
+    let mut copy = [0; SECRET_BYTES];
     copy.copy_from_slice(secret);
     copy
 }
@@ -33,7 +35,11 @@ fn secret_at(bytes: &[u8], at: usize) -> [u8; 8]
 /// The entry in sixteen bytes at a place.
 fn raw_at(bytes: &[u8], at: usize) -> RawEntry
     requires { at + 16 ≤ length bytes.now }
-    ensures { result ≡ record { first = number_at w32 at bytes.now; generation = number_at w32 (at + 4) bytes.now; secret = field (at + 8) 8 bytes.now } }
+    ensures { result ≡ record {
+      first = number_at w32 at bytes.now;
+      generation = number_at w32 (at + 4) bytes.now;
+      secret = field (at + 8) SECRET_BYTES bytes.now;
+    } }
 {
     RawEntry {
         first: u32_at(bytes, at),
@@ -56,37 +62,37 @@ fn read_raw(bytes: &[u8], raws: &mut [RawEntry])
 const BLANK: RawEntry = RawEntry {
     first: 0,
     generation: 0,
-    secret: [0; 8],
+    secret: [0; SECRET_BYTES],
 };
 
-fn blank_sixty() -> [RawEntry; 60] {
-    [BLANK; 60]
+fn blank_root() -> [RawEntry; ROOT_ENTRIES] {
+    [BLANK; ROOT_ENTRIES]
 }
 
-fn blank_sixty_three() -> [RawEntry; 63] {
-    [BLANK; 63]
+fn blank_part() -> [RawEntry; PART_ENTRIES] {
+    [BLANK; PART_ENTRIES]
 }
 
 /// The entries of a table of format 1.
 #[tactic(auto, unfolding(crate::specs::TableReading::raw_entries))]
-pub fn raw_of_root(block: &Block) -> [RawEntry; 60]
-    ensures { result ≡ raw_entries 60 block.now }
+pub fn raw_of_root(block: &Block) -> [RawEntry; ROOT_ENTRIES]
+    ensures { result ≡ raw_entries ROOT_ENTRIES block.now }
 {
     let bytes: &[u8] = block;
-    let (_, entries) = bytes.split_at(16);
-    let mut raws = blank_sixty();
+    let (_, entries) = bytes.split_at(ENTRIES_AT);
+    let mut raws = blank_root();
     read_raw(entries, &mut raws);
     raws
 }
 
 /// The entries of a part.
 #[tactic(auto, unfolding(crate::specs::TableReading::raw_entries))]
-pub fn raw_of_part(block: &Block) -> [RawEntry; 63]
-    ensures { result ≡ raw_entries 63 block.now }
+pub fn raw_of_part(block: &Block) -> [RawEntry; PART_ENTRIES]
+    ensures { result ≡ raw_entries PART_ENTRIES block.now }
 {
     let bytes: &[u8] = block;
-    let (_, entries) = bytes.split_at(16);
-    let mut raws = blank_sixty_three();
+    let (_, entries) = bytes.split_at(ENTRIES_AT);
+    let mut raws = blank_part();
     read_raw(entries, &mut raws);
     raws
 }
@@ -129,7 +135,7 @@ pub fn is_each_unused(raws: &[RawEntry]) -> bool
 
 /// The entry of these numbers, which are in the grammar.
 fn entry_of(raw: &RawEntry) -> TableEntry
-    requires far { is_far (2 ^ 28) raw.now ≡ false }
+    requires far { is_far BLOCK_NUMBERS raw.now ≡ false }
     requires counted { is_uncounted raw.now ≡ false }
     requires stray { is_stray raw.now ≡ false }
     ensures { result ≡ entry_value raw.now }
@@ -144,7 +150,7 @@ fn entry_of(raw: &RawEntry) -> TableEntry
 /// Writes the entries of these numbers, which are in the grammar.
 pub fn fill_entries(raws: &[RawEntry], entries: &mut [TableEntry])
     requires same { length raws.now ≡ length entries.old }
-    requires far { list_any (is_far (2 ^ 28)) raws.now ≡ false }
+    requires far { list_any (is_far BLOCK_NUMBERS) raws.now ≡ false }
     requires counted { list_any is_uncounted raws.now ≡ false }
     requires stray { list_any is_stray raws.now ≡ false }
     ensures { entries.new ≡ map entry_value raws.now }

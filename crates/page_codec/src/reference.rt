@@ -7,7 +7,7 @@ use std::marker::Model;
 
 /// A slot of a page: the block of the page below, and the marks of the update that wrote it. Block 0 is never
 /// named, and an empty slot has no marks.
-#[derive(Clone, Copy, Debug)]
+#[derive(Clone, Copy, Debug, PartialEq, Eq)]
 pub struct Reference {
     pub flags: Flags,
     pub block: Option<BlockNo>,

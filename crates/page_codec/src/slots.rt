@@ -7,10 +7,11 @@ ghost use Rattle.page_codec.specs.Reading.{slots, reference};
 ghost use Rattle.page_codec.specs.Causes.{is_no_code, is_dangling, is_nonzero, has_bad_reference};
 
 use crate::Block;
-use crate::page::{SLOTS, no_slots};
+use crate::layout::{LENGTH_AT, SLOTS_AT};
+use crate::page::no_slots;
 use crate::read::u32_at;
 use crate::reference::Reference;
-use afs_base::BlockNo;
+use afs_base::{BLOCK_NUMBERS, BlockNo, MAX_DEPTH, SLOTS};
 use ref_flags::Flags;
 
 /// Reads as many numbers of four bytes as there is room for.
@@ -30,7 +31,7 @@ pub fn slots_of(block: &Block) -> [u32; SLOTS]
 {
     let bytes: &[u8] = block;
     let mut numbers = [0; SLOTS];
-    read_numbers(&bytes[4..68], &mut numbers);
+    read_numbers(&bytes[SLOTS_AT..LENGTH_AT], &mut numbers);
     numbers
 }
 
@@ -38,14 +39,14 @@ pub fn slots_of(block: &Block) -> [u32; SLOTS]
 pub fn has_bad_code(numbers: &[u32]) -> bool
     ensures { result ≡ list_any is_no_code numbers.now }
 {
-    numbers.iter().any(|number| number / 0x1000_0000 > 12)
+    numbers.iter().any(|number| number / BLOCK_NUMBERS > 12)
 }
 
 /// Whether a slot has a code and no block.
 pub fn has_dangling(numbers: &[u32]) -> bool
     ensures { result ≡ list_any is_dangling numbers.now }
 {
-    numbers.iter().any(|number| (number % 0x1000_0000 == 0) & (number / 0x1000_0000 != 0))
+    numbers.iter().any(|number| (number % BLOCK_NUMBERS == 0) & (number / BLOCK_NUMBERS != 0))
 }
 
 /// Whether a slot is in use.
@@ -59,18 +60,18 @@ fn is_any_in_use(numbers: &[u32]) -> bool
 pub fn has_bad_reference(level: u8, numbers: &[u32]) -> bool
     ensures { result ≡ has_bad_reference level numbers.now }
 {
-    has_dangling(numbers) | ((level == 7) & is_any_in_use(numbers))
+    has_dangling(numbers) | ((usize::from(level) == MAX_DEPTH) & is_any_in_use(numbers))
 }
 
 /// The block of a number below 2^28, or none where it is 0.
 pub fn block_or_none(number: u32) -> Option<BlockNo>
-    requires { number < 2 ^ 28 }
+    requires { number < BLOCK_NUMBERS }
     ensures { result ≡ or_none number }
 {
     if number == 0 {
         return None;
     }
-    BlockNo::of(number).ok()
+    Some(BlockNo::at(number))
 }
 
 /// A slot's number as a reference.
@@ -79,13 +80,13 @@ fn reference_of(number: u32) -> Reference
     requires named { is_dangling number ≡ false }
     ensures { result ≡ reference number }
 {
-    let flags = match Flags::of_code((number / 0x1000_0000) as u8) {
+    let flags = match Flags::of_code((number / BLOCK_NUMBERS) as u8) {
         Ok(flags) => flags,
         Err(_) => unreachable!(),
     };
     Reference {
         flags,
-        block: block_or_none(number % 0x1000_0000),
+        block: block_or_none(number % BLOCK_NUMBERS),
     }
 }
 

@@ -12,19 +12,19 @@ ghost use Rattle.page_codec.specs.TableFacts.{RootFacts, PartFacts};
 use crate::Block;
 use crate::decode::first_cause;
 use crate::entry::TableEntry;
+use crate::layout::{BLOCKS_AT, ENTRIES_AT, KEY_AT, PART, PARTS_END, ROOT_END, TABLE};
 use crate::raw_entry::{
     RawEntry, fill_entries, is_any_far, is_any_stray, is_any_uncounted, is_each_unused,
     raw_of_part, raw_of_root,
 };
 use crate::read::{has_other, u32_at, u64_at};
-use crate::root::{PARTS, ROOT_ENTRIES, TableRoot, no_parts, no_root_entries};
+use crate::root::{TableRoot, no_parts, no_root_entries};
 use crate::slots::{block_or_none, read_numbers};
-use crate::table_bytes::{PART, TABLE};
 use crate::why::{BadPage, Why};
-use afs_base::BlockNo;
-
-/// How many entries a part has.
-pub const PART_ENTRIES: usize = 63;
+use afs_base::{
+    BLOCK_BYTES, BLOCK_NUMBERS, BlockNo, MAX_BLOCKS, MIN_BLOCKS, OPEN_GATE, PART_ENTRIES, PARTS,
+    ROOT_ENTRIES,
+};
 
 fn blank_numbers() -> [u32; PARTS] {
     [0; PARTS]
@@ -37,7 +37,7 @@ fn part_numbers_of(block: &Block) -> [u32; PARTS]
 {
     let bytes: &[u8] = block;
     let mut numbers = blank_numbers();
-    read_numbers(&bytes[16..272], &mut numbers);
+    read_numbers(&bytes[ENTRIES_AT..PARTS_END], &mut numbers);
     numbers
 }
 
@@ -53,27 +53,30 @@ fn is_any_out(numbers: &[u32], limit: u32) -> bool
 fn head_cause(block: &Block) -> Option<Why>
     ensures { result ≡ first_cause (head_causes block.now) }
 {
-    let blocks = u32_at(block, 4);
+    let blocks = u32_at(block, BLOCKS_AT);
     first_cause(&[
-        (block[0] != 0xa5, Why::Closed),
+        (block[0] != OPEN_GATE, Why::Closed),
         (block[1] != TABLE, Why::Kind),
         ((block[2] != 1) & (block[2] != 2), Why::Format),
-        ((blocks < 2) | (blocks > 65536), Why::Blocks),
+        ((blocks < MIN_BLOCKS) | (blocks > MAX_BLOCKS), Why::Blocks),
     ])
 }
 
 /// The first cause of format 1.
 #[tactic(auto, unfolding(crate::specs::TableReading::one_causes))]
 fn one_cause(block: &Block, raws: &[RawEntry; ROOT_ENTRIES]) -> Option<Why>
-    requires { raws.now ≡ raw_entries 60 block.now }
+    requires { raws.now ≡ raw_entries ROOT_ENTRIES block.now }
     ensures { result ≡ first_cause (one_causes block.now) }
 {
-    let blocks = u32_at(block, 4);
+    let blocks = u32_at(block, BLOCKS_AT);
     first_cause(&[
         (is_any_far(raws, blocks), Why::Reference),
         (is_any_uncounted(raws), Why::Generation),
         (is_any_stray(raws), Why::Secret),
-        ((block[3] != 0) | has_other(block, 976, 1024), Why::Zero),
+        (
+            (block[3] != 0) | has_other(block, ROOT_END, BLOCK_BYTES),
+            Why::Zero,
+        ),
     ])
 }
 
@@ -84,14 +87,22 @@ fn two_cause(block: &Block, numbers: &[u32; PARTS]) -> Option<Why>
     ensures { result ≡ first_cause (two_causes block.now) }
 {
     first_cause(&[
-        (is_any_out(numbers, u32_at(block, 4)), Why::Reference),
-        ((block[3] != 0) | has_other(block, 272, 1024), Why::Zero),
+        (
+            is_any_out(numbers, u32_at(block, BLOCKS_AT)),
+            Why::Reference,
+        ),
+        (
+            (block[3] != 0) | has_other(block, PARTS_END, BLOCK_BYTES),
+            Why::Zero,
+        ),
     ])
 }
 
 /// The first cause of the block's own format.
 fn format_cause(block: &Block) -> Option<Why>
-    ensures { result ≡ first_cause (if slice_index block.now 2 == 1 then one_causes block.now else two_causes block.now) }
+    ensures { result ≡ first_cause (if slice_index block.now 2 == 1
+        then one_causes block.now
+        else two_causes block.now) }
 {
     if block[2] == 1 {
         one_cause(block, &raw_of_root(block))
@@ -114,7 +125,7 @@ fn root_cause(block: &Block) -> Option<Why>
 fn root_entries(block: &Block) -> [TableEntry; ROOT_ENTRIES]
     requires facts { RootFacts block.now }
     requires one { slice_index block.now 2 ≡ 1 }
-    ensures { result ≡ map entry_value (raw_entries 60 block.now) }
+    ensures { result ≡ map entry_value (raw_entries ROOT_ENTRIES block.now) }
 {
     let raws = raw_of_root(block);
     let mut entries = no_root_entries();
@@ -125,7 +136,7 @@ fn root_entries(block: &Block) -> [TableEntry; ROOT_ENTRIES]
 /// Writes the parts' blocks of these numbers, which are block numbers.
 fn fill_parts(numbers: &[u32], parts: &mut [Option<BlockNo>], limit: u32)
     requires same { length numbers.now ≡ length parts.old }
-    requires small { limit ≤ 65536 }
+    requires small { limit ≤ MAX_BLOCKS }
     requires far { list_any (nat_le limit) numbers.now ≡ false }
     ensures { parts.new ≡ map or_none numbers.now }
 {
@@ -142,7 +153,7 @@ fn root_parts(block: &Block) -> [Option<BlockNo>; PARTS]
 {
     let numbers = part_numbers_of(block);
     let mut parts = no_parts();
-    fill_parts(&numbers, &mut parts, u32_at(block, 4));
+    fill_parts(&numbers, &mut parts, u32_at(block, BLOCKS_AT));
     parts
 }
 
@@ -155,8 +166,8 @@ fn root_one(block: &Block) -> TableRoot
 {
     TableRoot {
         format: 1,
-        blocks: u32_at(block, 4),
-        key: u64_at(block, 8),
+        blocks: u32_at(block, BLOCKS_AT),
+        key: u64_at(block, KEY_AT),
         parts: no_parts(),
         first: root_entries(block),
     }
@@ -171,8 +182,8 @@ fn root_two(block: &Block) -> TableRoot
 {
     TableRoot {
         format: block[2],
-        blocks: u32_at(block, 4),
-        key: u64_at(block, 8),
+        blocks: u32_at(block, BLOCKS_AT),
+        key: u64_at(block, KEY_AT),
         parts: root_parts(block),
         first: no_root_entries(),
     }
@@ -215,17 +226,17 @@ pub fn decode_root(block: &Block) -> Result<TableRoot, BadPage>
 /// The first cause for which the block is not part j.
 #[tactic(auto, unfolding(crate::specs::TableReading::part_causes))]
 fn part_cause(block: &Block, j: u8, raws: &[RawEntry; PART_ENTRIES]) -> Option<Why>
-    requires { raws.now ≡ raw_entries 63 block.now }
+    requires { raws.now ≡ raw_entries PART_ENTRIES block.now }
     ensures { result ≡ first_cause (part_causes j block.now) }
 {
     first_cause(&[
-        (block[0] != 0xa5, Why::Closed),
+        (block[0] != OPEN_GATE, Why::Closed),
         (block[1] != PART, Why::Kind),
         (block[2] != j, Why::Index),
-        (is_any_far(raws, 0x1000_0000), Why::Reference),
+        (is_any_far(raws, BLOCK_NUMBERS), Why::Reference),
         (is_any_uncounted(raws), Why::Generation),
         (is_any_stray(raws), Why::Secret),
-        (has_other(block, 3, 16), Why::Zero),
+        (has_other(block, 3, ENTRIES_AT), Why::Zero),
         (is_each_unused(raws), Why::Empty),
     ])
 }
@@ -237,7 +248,7 @@ fn blank_entries() -> [TableEntry; PART_ENTRIES] {
 /// The entries of a part.
 #[tactic(auto, unfolding(crate::specs::TableReading::part_value))]
 fn part_at(block: &Block, j: u8, raws: &[RawEntry; PART_ENTRIES]) -> [TableEntry; PART_ENTRIES]
-    requires raws { raws.now ≡ raw_entries 63 block.now }
+    requires raws { raws.now ≡ raw_entries PART_ENTRIES block.now }
     requires facts { PartFacts j block.now }
     ensures { result ≡ part_value block.now }
 {
@@ -257,13 +268,15 @@ fn read_part(block: &Block, j: u8) -> Result<[TableEntry; PART_ENTRIES], BadPage
     }
 }
 
-/// The sixty-three entries of part j of a table; an error, with the first cause, exactly where the block is the
+/// The sixty-three entries of part j of a table, 0 to 63; an error, with the first cause, exactly where the block is the
 /// spelling of none.
 pub fn decode_part(block: &Block, j: u8) -> Result<[TableEntry; PART_ENTRIES], BadPage>
+    requires { j < PARTS }
     // What is read is spelled so.
     ensures found { IfOk result (λ es. IsPart es × (block.now ≡ part_bytes j es)) }
     // What is spelled so is read.
-    ensures only { (es : List EntryValue) → IsPart es → block.now ≡ part_bytes j es → Reads result (Ok es) }
+    ensures only { (es : List EntryValue) → IsPart es → block.now ≡ part_bytes j es
+        → Reads result (Ok es) }
     // Which cause it is.
     ensures exact { Reads result (part_of j block.now) }
 {

@@ -24,7 +24,23 @@ impl Model for VersionPage {
 
     ghost Value = { VersionValue };
 
-    ghost view = { λ v. record { root = v.root; page = v.page; object = v.object; serial = v.serial; commit = v.commit; base = v.base; members = v.members } };
+    ghost view = { λ v. record {
+      root = v.root;
+      page = v.page;
+      object = v.object;
+      serial = v.serial;
+      commit = v.commit;
+      base = v.base;
+      members = v.members;
+    } };
 
-    ghost invariant = { λ v. IsSoundVersion (record { root = v.root; page = v.page; object = v.object; serial = v.serial; commit = v.commit; base = v.base; members = v.members }) };
+    ghost invariant = { λ v. IsSoundVersion (record {
+      root = v.root;
+      page = v.page;
+      object = v.object;
+      serial = v.serial;
+      commit = v.commit;
+      base = v.base;
+      members = v.members;
+    }) };
 }

@@ -11,5 +11,5 @@ use Rattle.page_codec.proofs.decode.has_bad_members.Goals as goal
 pub returns : goal.returns
 unfolding members_value
 returns c =
-    let few : ltb 16 (slice_index c.args.block.now 90) ≡ false = le-ltb _ _ c.if-count-gt16.false in
+    let few : ltb 16 (slice_index c.args.block.now 90) ≡ false = le-ltb _ _ c.if-count-gt-MAX_MEMBERS.false in
     rw few (c.is_any_bad.ensures ∙ ap (λ (xs : List ℕ). list_any is_bad_member (map member_value (pieces 8 (slice_index c.args.block.now 90) xs))) c.split_at.ensures.back)

@@ -23,7 +23,7 @@ loop-done-init c =
     let items = c.in_ok-extend_from_slice.ensures.items ∙ ap (λ (xs : List ℕ). xs ++ c.encode_root.new.into) c.new-image.ensures.items in
     record {
       size = ap length items ∙ c.encode_root.array_long;
-      table = ap (block_of 0) items ∙ block_of-push 0 [] c.encode_root.new.into refl c.encode_root.array_long ∙ c.encode_root.ensures ∙ ap root_bytes c.new_root.ensures;
+      table = ap (block_of 0) items ∙ block_of-push 0 [] c.encode_root.new.into refl c.encode_root.array_long ∙ c.encode_root.ensures.bytes ∙ ap root_bytes c.new_root.ensures;
       pages = λ i low high. absurd (omega arith);
     }
 

@@ -4,7 +4,7 @@ use Rattle.std.specs.List.{flat_map}
 use Rattle.std.proofs.lemmas.List.{take_all}
 use Rattle.page_codec.specs.Numbers.{zeros}
 use Rattle.page_codec.specs.TableSpelling.{entry_bytes, part_bytes}
-use Rattle.page_codec.proofs.table_bytes.put_part.Goals as goal
+use Rattle.page_codec.proofs.table_bytes.encode_entries.Goals as goal
 
 joined : (a b c head x y : List ℕ) → a ≡ head → b ≡ a ++ x → c ≡ b ++ y → c ≡ head ++ x ++ y
 joined a b c head x y e f g = cc
