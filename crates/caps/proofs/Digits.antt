@@ -1,5 +1,6 @@
 -- A text in which nothing is found that is no digit is all digits.
-use Rattle.std.proofs.Common.{◌≡◌, ℕ, Bool, true, false, cond, not, eqb, ltb, get_or, List, length, Some, None, refl, arith}
+use Rattle.std.proofs.Common.{◌≡◌, ℕ, ◌-◌, Bool, true, false, ◌&&◌, ◌||◌, cond, not, eqb, ltb, nat_le, get_or, List, length, Some, None, is_some, refl, arith}
+use Rattle.std.specs.Char.{is_ascii_hexdigit}
 use Rattle.std.specs.List.{AllPass, position, position_or_len}
 use Rattle.std.specs.Result.{IsOk}
 use Rattle.std.proofs.lemmas.Bool.{ltb-false, eqb-true}
@@ -34,3 +35,16 @@ sized text false e h = cc h
 pub IsOk-from_bad_place : (text : List ℕ) → bad_place text ≡ None → IsOk (decode_sized text 16)
 IsOk-from_bad_place text h =
     (IsOk-decode_sized text 16).1 (sized text (eqb (length text) 32) refl h)
+
+any_of : (d u l : Bool) (x y z : ℕ) → (d || u) || l ≡ is_some (cond u (Some x) (cond l (Some y) (cond d (Some z) None)))
+any_of true true l x y z = refl
+any_of true false true x y z = refl
+any_of true false false x y z = refl
+any_of false true l x y z = refl
+any_of false false true x y z = refl
+any_of false false false x y z = refl
+
+-- the digits that std knows are those that are decoded
+pub is_ascii_hexdigit-is_hex_digit : (c : ℕ) → is_ascii_hexdigit c ≡ is_hex_digit c
+is_ascii_hexdigit-is_hex_digit c =
+    any_of (nat_le 48 c && nat_le c 57) (nat_le 65 c && nat_le c 70) (nat_le 97 c && nat_le c 102) (c - 55) (c - 87) (c - 48)

@@ -14,7 +14,7 @@ const SIZE: usize = 16;
 /// grants anything by it is another matter.
 #[derive(Clone, Copy, PartialEq, Eq, Debug)]
 pub struct Capability {
-    bytes: [u8; 16],
+    bytes: [u8; SIZE],
 }
 
 impl Model for Capability {
@@ -39,10 +39,7 @@ pub struct BadHex {
 fn is_digit(c: u8) -> bool
     ensures { result ≡ is_hex_digit c }
 {
-    match c {
-        b'A'..=b'F' | b'a'..=b'f' | b'0'..=b'9' => true,
-        _ => false,
-    }
+    c.is_ascii_hexdigit()
 }
 
 /// The first byte that is no digit.
@@ -64,7 +61,7 @@ fn first_bad(text: &[u8]) -> Option<usize>
 }
 
 /// The bytes that 32 digits stand for.
-fn digits_value(text: &[u8]) -> [u8; 16]
+fn digits_value(text: &[u8]) -> [u8; SIZE]
     requires { bad_place text.now ≡ None }
     ensures { decode_of text.now ≡ Ok result }
 {
@@ -98,14 +95,14 @@ impl Capability {
     }
 
     /// The capability of these bytes.
-    pub fn of_bytes(bytes: &[u8; 16]) -> Capability
+    pub fn of_bytes(bytes: &[u8; SIZE]) -> Capability
         ensures { result ≡ bytes.now }
     {
         Capability { bytes: *bytes }
     }
 
     /// The bytes of the capability.
-    pub fn to_bytes(&self) -> [u8; 16]
+    pub fn to_bytes(&self) -> [u8; SIZE]
         ensures { result ≡ self.now }
     {
         self.bytes

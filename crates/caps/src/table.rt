@@ -32,7 +32,8 @@ fn seal_of(table: &Table, object: u32) -> Option<Seal>
 
 /// The capability of an object, counted from 1, with these rights; none exactly where the object is not live.
 pub fn mint(table: &Table, object: u32, rights: u8) -> Option<Capability>
-    ensures { result ≡ option_map (λ seal. capability_of seal object rights) (seal_of table.now object) }
+    ensures { result
+        ≡ option_map (λ seal. capability_of seal object rights) (seal_of table.now object) }
 {
     let seal = seal_of(table, object)?;
     Some(seal.capability(object, rights))

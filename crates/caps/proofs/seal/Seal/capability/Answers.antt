@@ -1,4 +1,4 @@
-use Rattle.std.proofs.Common.{ℕ, ◌≡◌, List, ◌∷◌, length, get_or, sym, ap, ◌∙◌}
+use Rattle.std.proofs.Common.{ℕ, List, ◌∷◌, length, get_or, ap, ◌∙◌}
 use Rattle.caps.specs.Grant.{check_of}
 use Rattle.caps.proofs.SealLemmas.{length-check_of, six_again}
 use Rattle.caps.proofs.seal.Seal.capability.Goals as goal
