@@ -8,6 +8,7 @@ use Rattle.drives.specs.declared.history.Span.{Span}
 use Rattle.drives.specs.declared.call.What.{What}
 use Rattle.drives.specs.declared.call.What.TheVariants.{Write, Tear, Sync}
 use Rattle.drives.specs.declared.call.Event.{Event}
+use Rattle.drives.specs.Bytes.{IsBytes}
 use Rattle.drives.specs.Crash.{IsOutside, Torn, LeavesTorn, LeavesEachTorn, LeavesSame, LeavesNoMore, LeavesOnly}
 use Rattle.drives.specs.Images.{IsImage}
 use Rattle.drives.specs.Replay.{State, happened, done, overwritten, state, state_at, next_call, IsWriteOf}
@@ -57,14 +58,14 @@ module _ (first : List ℕ) (e : Event) (events : List Event) where
 
   -- what a write, or a failed one, leaves
   module _ (at n : ℕ) (torn : Torn at n (state first events).bytes (happened e (state first events)).bytes) (s : Span) (spans : (happened e (state first events)).spans ≡ s ∷ (state first events).spans) (here : s.at ≡ at) (long : s.len ≡ n) where
-    pub left_torn : LeavesTorn at n (IsLeftBy first events (moment_after events)) (IsLeftBy first (e ∷ events) (next_call (length events)))
-    left_torn c image =
-        let from = torn_image (state first events).spans (happened e (state first events)).spans s at n (state first events).bytes (happened e (state first events)).bytes torn spans here long c (to_next c image) in
+    pub left_torn : IsBytes (state first events).bytes → LeavesTorn at n (IsLeftBy first events (moment_after events)) (IsLeftBy first (e ∷ events) (next_call (length events)))
+    left_torn fits c image =
+        let from = torn_image (state first events).spans (happened e (state first events)).spans s at n (state first events).bytes (happened e (state first events)).bytes fits torn spans here long c (to_next c image) in
         (from.0, from_now from.0 from.1, from.2)
 
     pub left_each : LeavesEachTorn at n (IsLeftBy first events (moment_after events)) (IsLeftBy first (e ∷ events) (next_call (length events)))
-    left_each d c image torn' =
-        from_next c (torn_each (state first events).spans (happened e (state first events)).spans s at n (state first events).bytes (happened e (state first events)).bytes torn spans here long d c (to_now d image) torn')
+    left_each d c image torn' fits =
+        from_next c (torn_each (state first events).spans (happened e (state first events)).spans s at n (state first events).bytes (happened e (state first events)).bytes torn spans here long d c (to_now d image) torn' fits)
 
   -- what a call that did nothing to the half leaves
   pub left_same : happened e (state first events) ≡ state first events → LeavesSame (IsLeftBy first events (moment_after events)) (IsLeftBy first (e ∷ events) (next_call (length events)))
@@ -89,8 +90,8 @@ module _ (first : List ℕ) (e : Event) (events grown : List Event) (is : grown 
   grown_same same = moved (λ t es. LeavesSame (IsLeftBy first events (moment_after events)) (IsLeftBy first es t)) (left_same first e events same)
 
   module _ (at n : ℕ) (torn : Torn at n (state first events).bytes (happened e (state first events)).bytes) (s : Span) (spans : (happened e (state first events)).spans ≡ s ∷ (state first events).spans) (here : s.at ≡ at) (long : s.len ≡ n) where
-    pub grown_torn : LeavesTorn at n (IsLeftBy first events (moment_after events)) (IsLeftBy first grown (moment_after grown))
-    grown_torn = moved (λ t es. LeavesTorn at n (IsLeftBy first events (moment_after events)) (IsLeftBy first es t)) (left_torn first e events at n torn s spans here long)
+    pub grown_torn : IsBytes (state first events).bytes → LeavesTorn at n (IsLeftBy first events (moment_after events)) (IsLeftBy first grown (moment_after grown))
+    grown_torn fits = moved (λ t es. LeavesTorn at n (IsLeftBy first events (moment_after events)) (IsLeftBy first es t)) (left_torn first e events at n torn s spans here long fits)
 
     pub grown_each : LeavesEachTorn at n (IsLeftBy first events (moment_after events)) (IsLeftBy first grown (moment_after grown))
     grown_each = moved (λ t es. LeavesEachTorn at n (IsLeftBy first events (moment_after events)) (IsLeftBy first es t)) (left_each first e events at n torn s spans here long)
@@ -109,6 +110,7 @@ module _ (first : List ℕ) (e : Event) (events grown : List Event) (is : grown 
     grown_no_more c image = from_now first e events c (record {
       size = (only_bytes c image).size;
       untouched = λ i free. (only_bytes c image).untouched i tt;
+      fits = (only_bytes c image).fits;
     })
 
 overwritten_outside : (at : ℕ) (bytes half : List ℕ) (i : ℕ) → at + length bytes ≤ length half → IsOutside at (length bytes) i → slice_index (overwritten at bytes half) i ≡ slice_index half i
@@ -136,8 +138,8 @@ module _ (first : List ℕ) (e : Event) (events grown : List Event) (is : grown 
   spans' : (happened e (state first events)).spans ≡ record { at = at; len = n } ∷ (state first events).spans
   spans' = ap (λ (s : State). s.spans) happens ∙ spans
 
-  pub tearing_torn : LeavesTorn at n (IsLeftBy first events (moment_after events)) (IsLeftBy first grown (moment_after grown))
-  tearing_torn = grown_torn first e events grown is at n torn' (record { at = at; len = n }) spans' refl refl
+  pub tearing_torn : IsBytes (state first events).bytes → LeavesTorn at n (IsLeftBy first events (moment_after events)) (IsLeftBy first grown (moment_after grown))
+  tearing_torn fits = grown_torn first e events grown is at n torn' (record { at = at; len = n }) spans' refl refl fits
 
   pub tearing_each : LeavesEachTorn at n (IsLeftBy first events (moment_after events)) (IsLeftBy first grown (moment_after grown))
   tearing_each = grown_each first e events grown is at n torn' (record { at = at; len = n }) spans' refl refl

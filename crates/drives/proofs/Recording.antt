@@ -7,6 +7,7 @@ use Rattle.drives.specs.declared.call.Call.{Call}
 use Rattle.drives.specs.declared.call.Event.{Event}
 use Rattle.drives.specs.declared.call.Event.TheVariants.{Made, Lost, Idle}
 use Rattle.drives.specs.declared.call.Pick.{Pick}
+use Rattle.drives.specs.Bytes.{IsBytes}
 use Rattle.drives.specs.Images.{IsUntouched}
 use Rattle.drives.specs.Replay.{State, start, done, torn, overwritten, state_at, next_call, recorded, replay_step, replayed}
 use Rattle.drives.specs.Picked.{IsReplayed}
@@ -69,10 +70,11 @@ agrees_at first t (Idle ∷ events) =
     one_if (nat_le (next_call (length events)) t) p s s same same
 
 -- so an image by the record is an image of the half
-pub left_by_record : (first : List ℕ) (t : ℕ) (events : List Event) (calls : List Call) (pick : Pick) (image : List ℕ) → recorded events ≡ calls → IsReplayed pick (replayed first t calls) (replayed first t calls).bytes image → IsLeftBy first events t image
-left_by_record first t events calls pick image made is =
+pub left_by_record : (first : List ℕ) (t : ℕ) (events : List Event) (calls : List Call) (pick : Pick) (image : List ℕ) → recorded events ≡ calls → IsBytes image → IsReplayed pick (replayed first t calls) (replayed first t calls).bytes image → IsLeftBy first events t image
+left_by_record first t events calls pick image made fits is =
     let same = subst (λ (cs : List Call). Agrees (replayed first t cs) (state_at first t events)) made (agrees_at first t events) in
     record {
       size = is.size ∙ ap (λ (b : List ℕ). length b) same.bytes;
-      untouched = λ i free. is.is_image.untouched i (same.spans i free) ∙ ap (λ (b : List ℕ). slice_index b i) same.bytes;
+      untouched = λ i free. is.untouched i (same.spans i free) ∙ ap (λ (b : List ℕ). slice_index b i) same.bytes;
+      fits = fits;
     }

@@ -5,6 +5,7 @@ use Rattle.std.proofs.lemmas.List.FromFn.{get_or-map-range_with_len, length-map-
 use Rattle.std.proofs.lemmas.Bool.Decides.{nat_tests}
 use Rattle.std.proofs.lemmas.Grind.{common_steps}
 use Rattle.drives.specs.declared.history.Span.{Span}
+use Rattle.drives.specs.Bytes.{IsBytes}
 use Rattle.drives.specs.Crash.{IsOutside, LeavesEachTorn, LeavesTorn, Torn}
 use Rattle.drives.specs.Images.{IsUntouched, IsImage}
 
@@ -57,9 +58,17 @@ place at n i =
       | inr high ↦ elim (order i (at + n)) [ inl within ↦ inr (high, within) | inr behind ↦ inl (inr behind) ]
     ]
 
+-- bytes within bytes are bytes
+spliced_fits : (at n : ℕ) (inner outer : List ℕ) → length inner ≡ length outer → IsBytes inner → IsBytes outer → IsBytes (spliced at n inner outer)
+spliced_fits at n inner outer e fits fits' i =
+    elim (place at n i) [
+      | inl outside ↦ omega (arith, spliced_outside at n inner outer i outside, fits' i)
+      | inr inside ↦ omega (arith, spliced_inside at n inner outer i e inside.0 inside.1, fits i)
+    ]
+
 -- whichever bytes a torn half has, they came from an image that had its old bytes there
-pub torn_from : (spans : List Span) (s : Span) (at n : ℕ) (before after c : List ℕ) → Torn at n before after → s.at ≡ at → s.len ≡ n → IsImage (s ∷ spans) after c → (d : List ℕ) × IsImage spans before d × Torn at n d c
-torn_from spans s at n before after c torn here long image =
+pub torn_from : (spans : List Span) (s : Span) (at n : ℕ) (before after c : List ℕ) → IsBytes before → Torn at n before after → s.at ≡ at → s.len ≡ n → IsImage (s ∷ spans) after c → (d : List ℕ) × IsImage spans before d × Torn at n d c
+torn_from spans s at n before after c fits torn here long image =
     let d = spliced at n before c in
     let lengths : length before ≡ length c = omega (arith, torn.size, image.size) in
     let untouched : (i : ℕ) → IsUntouched spans i → slice_index d i ≡ slice_index before i =
@@ -70,25 +79,30 @@ torn_from spans s at n before after c torn here long image =
       | inr inside ↦ spliced_inside at n before c i lengths inside.0 inside.1
     ] in (
       d,
-      record { size = length-spliced at n before c ∙ sym lengths; untouched = untouched },
+      record {
+        size = length-spliced at n before c ∙ sym lengths;
+        untouched = untouched;
+        fits = spliced_fits at n before c lengths fits image.fits;
+      },
       record { size = sym (length-spliced at n before c); outside = λ i outside. sym (spliced_outside at n before c i outside) },
     )
 
 -- after a write, or a failed one, a crash leaves what it might have left before, torn in the range
-pub torn_image : (spans spans' : List Span) (s : Span) (at n : ℕ) (before after : List ℕ) → Torn at n before after → spans' ≡ s ∷ spans → s.at ≡ at → s.len ≡ n → LeavesTorn at n (IsImage spans before) (IsImage spans' after)
-torn_image spans spans' s at n before after torn is here long c image =
-    torn_from spans s at n before after c torn here long (subst (λ (x : List Span). IsImage x after c) is image)
+pub torn_image : (spans spans' : List Span) (s : Span) (at n : ℕ) (before after : List ℕ) → IsBytes before → Torn at n before after → spans' ≡ s ∷ spans → s.at ≡ at → s.len ≡ n → LeavesTorn at n (IsImage spans before) (IsImage spans' after)
+torn_image spans spans' s at n before after fits torn is here long c image =
+    torn_from spans s at n before after c fits torn here long (subst (λ (x : List Span). IsImage x after c) is image)
 
 -- bytes are themselves, torn anywhere
 pub untorn : (at n : ℕ) (bytes : List ℕ) → Torn at n bytes bytes
 untorn at n bytes = record { size = refl; outside = λ i outside. refl }
 
--- and it may leave each of them
+-- and it may leave each of them that holds bytes
 pub torn_each : (spans spans' : List Span) (s : Span) (at n : ℕ) (before after : List ℕ) → Torn at n before after → spans' ≡ s ∷ spans → s.at ≡ at → s.len ≡ n → LeavesEachTorn at n (IsImage spans before) (IsImage spans' after)
-torn_each spans spans' s at n before after torn is here long d c image torn' =
+torn_each spans spans' s at n before after torn is here long d c image torn' fits =
     subst (λ (x : List Span). IsImage x after c) (sym is) (record {
       size = omega (arith, torn.size, torn'.size, image.size);
       untouched = λ i free.
           let outside = subst (λ (x : ℕ). IsOutside x n i) here (subst (λ (y : ℕ). IsOutside s.at y i) long free.0) in
           torn'.outside i outside ∙ image.untouched i free.1 ∙ sym (torn.outside i outside);
+      fits = fits;
     })

@@ -1,11 +1,13 @@
--- What a call, or many in a row, may do to what a crash leaves: one record for every kind of content.
+-- What a call, or many in a row, may do to what a crash leaves: one record for every kind of
+-- content.
 use Rattle.std.specs.Prelude.{◌≡◌, ◌⊎◌, ◌↔◌, ℕ, ◌-◌, ◌^◌, ◌<◌, ◌≤◌, List}
 use Rattle.drives.specs.declared.device.Half.{Half}
 use Rattle.drives.specs.declared.device.Half.TheVariants.{A, B}
 use Rattle.drives.specs.Crash.{LeavesOnly}
 
--- Time went on from `before` to `after`; what a crash at an earlier moment may leave stays; and whatever a crash at a moment
--- between the two may leave comes by R from one thing that a crash at `before` might have left.
+-- Time went on from `before` to `after`; what a crash at an earlier moment may leave stays; and
+-- whatever a crash at a moment between the two may leave comes by R from one thing that a crash at
+-- `before` might have left.
 pub record Changes {D X : Type 0} (moment : D → ℕ) (may_leave : D → ℕ → X → Type 0) (before after : D) (R : X → X → Type 0) : Type 0 where
   pub later : moment before ≤ moment after
   pub last : moment after ≤ 2 ^ 64 - 1
@@ -14,7 +16,8 @@ pub record Changes {D X : Type 0} (moment : D → ℕ) (may_leave : D → ℕ �
   pub past : (t : ℕ) (x : X) → t ≤ moment before → t < moment after → may_leave after t x ↔ may_leave before t x
   pub own : (t : ℕ) (x : X) → moment before ≤ t → t ≤ moment after → may_leave after t x → (y : X) × may_leave before (moment before) y × R y x
 
--- what a crash at this very moment may leave comes by R from one thing that a crash at `before` might have left
+-- what a crash at this very moment may leave comes by R from one thing that a crash at `before`
+-- might have left
 abbrev pub LeavesNow : {D X : Type 0} → (D → ℕ) → (D → ℕ → X → Type 0) → D → D → (X → X → Type 0) → Type 0
 LeavesNow {X = X} moment may_leave before after R = (x : X) → may_leave after (moment after) x → (y : X) × may_leave before (moment before) y × R y x
 

@@ -7,6 +7,7 @@ use Rattle.drives.specs.declared.device.Half.TheVariants.{A, B}
 use Rattle.drives.specs.declared.call.Event.{Event}
 use Rattle.drives.specs.declared.mem_half.MemHalf.{MemHalf}
 use Rattle.drives.specs.declared.memory.MemDrives.{MemDrives}
+use Rattle.drives.specs.Bytes.{IsBytes}
 use Rattle.drives.specs.Replay.{State, happened, state, state_at, next_call}
 use Rattle.drives.specs.Left.{IsMemLeft, moment_after, mem_half}
 
@@ -28,7 +29,11 @@ half_length half t c e left =
 half_seen : (half : MemHalf) (t : ℕ) → moment_after half.events ≡ t → IsMemLeft half t half.bytes.items
 half_seen half t e =
     let bytes : (state_at half.first.items t half.events).bytes ≡ half.bytes.items = ap (λ (s : State). s.bytes) (state_now half.first.items t half.events (omega arith)) ∙ half.known in
-    record { size = ap (λ (b : List ℕ). length b) (sym bytes); untouched = λ i free. ap (λ (b : List ℕ). slice_index b i) (sym bytes) }
+    record {
+      size = ap (λ (b : List ℕ). length b) (sym bytes);
+      untouched = λ i free. ap (λ (b : List ℕ). slice_index b i) (sym bytes);
+      fits = half.bytes_fit;
+    }
 
 pub length-left : (d : MemDrives) (h : Half) (c : List ℕ) → IsMemLeft (mem_half d h) d.time c → length c ≡ 1024 * d.blocks
 length-left d A c left = half_length d.a d.time c d.moment_a left ∙ d.whole_a
@@ -37,3 +42,7 @@ length-left d B c left = half_length d.b d.time c d.moment_b left ∙ d.whole_b
 pub left_seen : (d : MemDrives) (h : Half) → IsMemLeft (mem_half d h) d.time (mem_half d h).bytes.items
 left_seen d A = half_seen d.a d.time d.moment_a
 left_seen d B = half_seen d.b d.time d.moment_b
+
+pub seen_fits : (d : MemDrives) (h : Half) → IsBytes (mem_half d h).bytes.items
+seen_fits d A = d.a.bytes_fit
+seen_fits d B = d.b.bytes_fit

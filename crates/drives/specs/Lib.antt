@@ -1,4 +1,5 @@
 pub mod Half
+pub mod Bytes
 pub mod Crash
 pub mod Faults
 pub mod Changes
@@ -10,3 +11,4 @@ pub mod Replay
 pub mod Picked
 pub mod Left
 pub mod LeftLaws
+pub mod SureLaws

@@ -3,7 +3,7 @@ use Rattle.std.specs.Prelude.{◌≡◌, ℕ, ◌+◌, ◌<◌, ◌≤◌, List,
 use Rattle.drives.specs.declared.call.Pick.{Pick}
 use Rattle.drives.specs.declared.call.Pick.TheVariants.{Old, New, Fill}
 use Rattle.drives.specs.Crash.{Torn}
-use Rattle.drives.specs.Images.{IsImage}
+use Rattle.drives.specs.Images.{IsUntouched}
 use Rattle.drives.specs.Replay.{State, overwritten, IsPicked}
 
 -- one byte over a range, and the same bytes outside it
@@ -27,5 +27,5 @@ Tears (Fill byte) at n before after = IsFilledIn byte at n before after
 pub record IsReplayed (pick : Pick) (s : State) (bytes image : List ℕ) : Type 0 where
   pub same : s.bytes ≡ bytes
   pub size : length image ≡ length bytes
-  pub is_image : IsImage s.spans bytes image
+  pub untouched : (i : ℕ) → IsUntouched s.spans i → slice_index image i ≡ slice_index bytes i
   pub picked : IsPicked pick s image

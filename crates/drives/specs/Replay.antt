@@ -84,7 +84,8 @@ pub record IsFilled (byte : ℕ) (s : State) (image : List ℕ) : Type 0 where
   pub untouched : (i : ℕ) → IsUntouched s.spans i → slice_index image i ≡ slice_index s.bytes i
   pub touched : (i : ℕ) → i < length image → (IsUntouched s.spans i → ⊥) → slice_index image i ≡ byte
 
--- the image that a pick names: the bytes written, those of the last sync, or one byte wherever a write touched
+-- the image that a pick names: the bytes written, those of the last sync, or one byte wherever a
+-- write touched
 abbrev pub IsPicked : Pick → State → List ℕ → Type 0
 IsPicked New s image = image ≡ s.bytes
 IsPicked Old s image = image ≡ s.synced

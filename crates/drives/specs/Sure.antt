@@ -7,7 +7,8 @@ use Rattle.drives.specs.declared.sure.SureDrives.{SureDrives}
 use Rattle.drives.specs.Half.{one_of}
 use Rattle.drives.specs.Images.{IsImage}
 
--- an image of a moment that has passed; the newest comes first, and moment t is the one with t moments behind it
+-- an image of a moment that has passed; the newest comes first, and moment t is the one with t
+-- moments behind it
 abbrev pub WasLeft : List Moment → ℕ → List ℕ → Type 0
 WasLeft [] t c = ⊥
 WasLeft (m ∷ past) t c = ((t ≡ length past) × IsImage m.spans.value m.bytes.value.items c) ⊎ ((t < length past) × WasLeft past t c)

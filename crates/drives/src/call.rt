@@ -16,7 +16,8 @@ pub struct Call {
     pub what: What,
 }
 
-/// What a call meant for a half, whether or not there was memory to record it. Clauses alone see it.
+/// What a call meant for a half, whether or not there was memory to record it. Clauses alone see
+/// it.
 #[derive(Drop)]
 pub enum Event {
     Made(Snapshot<What>),

@@ -1,12 +1,13 @@
 // The image of a half at a moment that has passed, made from the record of its calls.
 ghost use Rattle.std.specs.Prelude.{◌≡◌, ℕ, ◌+◌, ◌<◌, ◌≤◌, true, length, slice_index, IfOk};
+ghost use Rattle.drives.specs.Bytes.{IsBytes};
 ghost use Rattle.drives.specs.Crash.{Torn};
 ghost use Rattle.drives.specs.Replay.{State, what_fits, calls_fit, replay_step, replayed};
 ghost use Rattle.drives.specs.Picked.{Touches, Tears, IsReplayed};
 
 use crate::bytes::write_over;
 use crate::call::{Call, Pick, What};
-use crate::out_of_memory::Memory;
+use afs_base::Memory;
 use std::alloc::Global;
 
 // One byte over a whole range.
@@ -52,6 +53,7 @@ fn replay(call: &Call, moment: u64, pick: Pick, bytes: &mut Vec<u8>, image: &mut
         → IsReplayed pick (replay_step moment s call.now) bytes.new.items image.new.items }
     ensures bytes { length bytes.new.items ≡ length bytes.old.items }
     ensures image { length image.new.items ≡ length image.old.items }
+    ensures fits { IsBytes image.new.items }
 {
     if call.when > moment {
         return;
@@ -66,7 +68,8 @@ fn replay(call: &Call, moment: u64, pick: Pick, bytes: &mut Vec<u8>, image: &mut
     }
 }
 
-/// The image that a pick names, after the recorded calls up to a moment on a half that began with `first`.
+/// The image that a pick names, after the recorded calls up to a moment on a half that began with
+/// `first`.
 pub fn image_at(
     alloc: Global,
     first: &Vec<u8>,
@@ -76,8 +79,9 @@ pub fn image_at(
 ) -> Result<Vec<u8>, Memory>
     requires { calls_fit (length first.now.items) calls.now.items ≡ true }
     ensures length { IfOk result (λ image. length image.items ≡ length first.now.items) }
-    ensures replayed { IfOk result (λ image. IsReplayed pick (replayed first.now.items moment calls.now.items)
-        (replayed first.now.items moment calls.now.items).bytes image.items) }
+    ensures fits { IfOk result (λ image. IsBytes image.items) }
+    ensures replayed { IfOk result (λ image. let state = replayed first.now.items moment
+        calls.now.items in IsReplayed pick state state.bytes image.items) }
 {
     let mut bytes = first.to_vec(alloc)?;
     let mut image = first.to_vec(alloc)?;

@@ -8,12 +8,10 @@ mod history;
 mod image;
 mod mem_half;
 mod memory;
-mod out_of_memory;
 mod sure;
 
-pub use afs_base::Failed;
+pub use afs_base::{Failed, Memory};
 pub use call::Pick;
 pub use device::{Drives, Half};
 pub use memory::MemDrives;
-pub use out_of_memory::Memory;
 pub use sure::SureDrives;

@@ -1,5 +1,6 @@
 // A half in memory with a record of its calls.
 ghost use Rattle.std.specs.Prelude.{◌≡◌, ◌↔◌, ℕ, ◌+◌, ◌-◌, ◌*◌, ◌^◌, ◌<◌, ◌≤◌, min, true, List, [], ◌∷◌, ◌++◌, length, vec_len, OnOk, OnErr, IfOk, IsErr, IsOk, IsTrue};
+ghost use Rattle.drives.specs.Bytes.{IsBytes};
 ghost use Rattle.drives.specs.Crash.{HasAt, LeavesEachTorn, LeavesOnly, LeavesNoMore, LeavesSame, LeavesTorn, Torn};
 ghost use Rattle.drives.specs.Faults.{HasFault};
 ghost use Rattle.drives.specs.Replay.{state, recorded, calls_fit, next_call, IsPicked, IsWriteOf};
@@ -9,7 +10,7 @@ use crate::bytes::{copy_out, write_over};
 use crate::call::{Call, Event, Pick, What};
 use crate::history::Remembered;
 use crate::image::image_at;
-use crate::out_of_memory::Memory;
+use afs_base::Memory;
 use std::alloc::Global;
 use std::snapshot::Snapshot;
 
@@ -45,12 +46,14 @@ pub struct MemHalf {
     ghost known: { (state first.items events).bytes ≡ bytes.items },
     ghost made: { recorded events ≡ calls.items },
     ghost within: { calls_fit (length bytes.items) calls.items ≡ true },
+    ghost bytes_fit: { IsBytes bytes.items },
 }
 
 // Puts a call into the record, and tells what it did.
 fn record_call(calls: &mut Vec<Call>, when: u64, what: What) -> Result<Snapshot<What>, Memory>
     ensures told { IfOk result (λ w. w.value ≡ what) }
-    ensures ok { IfOk result (λ w. calls.new.items ≡ calls.old.items ++ record { when = when; what = w.value } ∷ []) }
+    ensures ok { IfOk result (λ w. calls.new.items ≡ calls.old.items ++ record
+        { when = when; what = w.value } ∷ []) }
     ensures err { OnErr result (calls.new.items ≡ calls.old.items) }
 {
     let told = Snapshot::of(&what);
@@ -67,7 +70,8 @@ fn record_write(
     bytes: &[u8],
 ) -> Result<Snapshot<What>, Memory>
     ensures told { IfOk result (λ w. IsWriteOf at bytes.now w.value) }
-    ensures ok { IfOk result (λ w. calls.new.items ≡ calls.old.items ++ record { when = when; what = w.value } ∷ []) }
+    ensures ok { IfOk result (λ w. calls.new.items ≡ calls.old.items ++ record
+        { when = when; what = w.value } ∷ []) }
     ensures err { OnErr result (calls.new.items ≡ calls.old.items) }
 {
     let bytes = bytes.to_vec(alloc)?;
@@ -75,7 +79,7 @@ fn record_write(
 }
 
 impl MemHalf {
-    ghost use Rattle.drives.specs.Left.{IsMemLeft, moment_after, recorded_at};
+    ghost use Rattle.drives.specs.Left.{IsMemLeft, IsMemLeftNow, SameMemPast, recorded_at};
 
     /// A half with these bytes, all of them synced.
     pub fn new(alloc: Global, bytes: Vec<u8>) -> Result<MemHalf, Memory>
@@ -101,10 +105,12 @@ impl MemHalf {
         &self.bytes
     }
 
-    /// An image of this half at a moment: what the pick says in each range that was written and not synced by then.
+    /// An image of this half at a moment: what the pick says in each range that was written and not
+    /// synced by then.
     pub fn image(&self, moment: u64, pick: Pick) -> Result<Vec<u8>, Memory>
         ensures left { IfOk result (λ image. IsMemLeft self.now moment image.items) }
-        ensures picked { IfOk result (λ image. IsPicked pick (recorded_at self.now moment) image.items) }
+        ensures picked { IfOk result (λ image. IsPicked pick (recorded_at self.now moment)
+            image.items) }
         ensures length { IfOk result (λ image. vec_len image ≡ length self.now.bytes.items) }
     {
         image_at(self.alloc, &self.first, &self.calls, moment, pick)
@@ -115,8 +121,8 @@ impl MemHalf {
         ensures bytes { self.new.bytes ≡ self.old.bytes }
         ensures length { length self.new.events ≡ length self.old.events + 1 }
         ensures faults { self.new.faults ≡ self.old.faults }
-        ensures same { LeavesSame (IsMemLeft self.old (moment_after self.old.events)) (IsMemLeft self.new (moment_after self.new.events)) }
-        ensures past { (t : ℕ) (c : List ℕ) → t < moment_after self.new.events → IsMemLeft self.new t c ↔ IsMemLeft self.old t c }
+        ensures same { LeavesSame (IsMemLeftNow self.old) (IsMemLeftNow self.new) }
+        ensures past { SameMemPast self.old self.new }
     {
         self.events.push(Snapshot::of(&Event::Idle));
     }
@@ -126,9 +132,9 @@ impl MemHalf {
         ensures bytes { self.new.bytes ≡ self.old.bytes }
         ensures length { length self.new.events ≡ length self.old.events + 1 }
         ensures faults { self.new.faults ≡ self.old.faults }
-        ensures crash { LeavesTorn at len (IsMemLeft self.old (moment_after self.old.events)) (IsMemLeft self.new (moment_after self.new.events)) }
-        ensures crash_all { LeavesEachTorn at len (IsMemLeft self.old (moment_after self.old.events)) (IsMemLeft self.new (moment_after self.new.events)) }
-        ensures past { (t : ℕ) (c : List ℕ) → t < moment_after self.new.events → IsMemLeft self.new t c ↔ IsMemLeft self.old t c }
+        ensures crash { LeavesTorn at len (IsMemLeftNow self.old) (IsMemLeftNow self.new) }
+        ensures crash_all { LeavesEachTorn at len (IsMemLeftNow self.old) (IsMemLeftNow self.new) }
+        ensures past { SameMemPast self.old self.new }
     {
         self.events.push(Snapshot::of(&Event::Lost { at, len }));
     }
@@ -140,9 +146,9 @@ impl MemHalf {
         ensures bytes { self.new.bytes ≡ self.old.bytes }
         ensures length { length self.new.events ≡ length self.old.events + 1 }
         ensures faults { self.new.faults ≡ self.old.faults }
-        ensures crash { LeavesTorn at len (IsMemLeft self.old (moment_after self.old.events)) (IsMemLeft self.new (moment_after self.new.events)) }
-        ensures crash_all { LeavesEachTorn at len (IsMemLeft self.old (moment_after self.old.events)) (IsMemLeft self.new (moment_after self.new.events)) }
-        ensures past { (t : ℕ) (c : List ℕ) → t < moment_after self.new.events → IsMemLeft self.new t c ↔ IsMemLeft self.old t c }
+        ensures crash { LeavesTorn at len (IsMemLeftNow self.old) (IsMemLeftNow self.new) }
+        ensures crash_all { LeavesEachTorn at len (IsMemLeftNow self.old) (IsMemLeftNow self.new) }
+        ensures past { SameMemPast self.old self.new }
     {
         match record_call(&mut self.calls, when, What::Tear { at, len }) {
             Ok(what) => self.events.push(Snapshot::of(&Event::Made(what))),
@@ -158,9 +164,11 @@ impl MemHalf {
         ensures torn { Torn at (length bytes.now) self.old.bytes.items self.new.bytes.items }
         ensures length { length self.new.events ≡ length self.old.events + 1 }
         ensures faults { self.new.faults ≡ self.old.faults }
-        ensures crash { LeavesTorn at (length bytes.now) (IsMemLeft self.old (moment_after self.old.events)) (IsMemLeft self.new (moment_after self.new.events)) }
-        ensures crash_all { LeavesEachTorn at (length bytes.now) (IsMemLeft self.old (moment_after self.old.events)) (IsMemLeft self.new (moment_after self.new.events)) }
-        ensures past { (t : ℕ) (c : List ℕ) → t < moment_after self.new.events → IsMemLeft self.new t c ↔ IsMemLeft self.old t c }
+        ensures crash { LeavesTorn at (length bytes.now) (IsMemLeftNow self.old)
+            (IsMemLeftNow self.new) }
+        ensures crash_all { LeavesEachTorn at (length bytes.now) (IsMemLeftNow self.old)
+            (IsMemLeftNow self.new) }
+        ensures past { SameMemPast self.old self.new }
     {
         match record_write(self.alloc, &mut self.calls, when, at, bytes) {
             Ok(what) => {
@@ -181,10 +189,11 @@ impl MemHalf {
         ensures bytes { self.new.bytes ≡ self.old.bytes }
         ensures length { length self.new.events ≡ length self.old.events + 1 }
         ensures faults { self.new.faults ≡ self.old.faults }
-        ensures durable { OnOk result (LeavesOnly self.old.bytes.items (IsMemLeft self.new (moment_after self.new.events))) }
-        ensures crash { LeavesNoMore (IsMemLeft self.old (moment_after self.old.events)) (IsMemLeft self.new (moment_after self.new.events)) }
-        ensures crash_failed { OnErr result (LeavesSame (IsMemLeft self.old (moment_after self.old.events)) (IsMemLeft self.new (moment_after self.new.events))) }
-        ensures past { (t : ℕ) (c : List ℕ) → t < moment_after self.new.events → IsMemLeft self.new t c ↔ IsMemLeft self.old t c }
+        ensures durable { OnOk result (LeavesOnly self.old.bytes.items (IsMemLeftNow self.new)) }
+        ensures crash { LeavesNoMore (IsMemLeftNow self.old) (IsMemLeftNow self.new) }
+        ensures crash_failed { OnErr result
+            (LeavesSame (IsMemLeftNow self.old) (IsMemLeftNow self.new)) }
+        ensures past { SameMemPast self.old self.new }
     {
         match record_call(&mut self.calls, when, What::Sync) {
             Ok(what) => {
@@ -205,10 +214,12 @@ impl MemHalf {
         ensures read { OnOk result (HasAt at buf.new self.old.bytes.items) }
         ensures bytes { self.new.bytes ≡ self.old.bytes }
         ensures length { length self.new.events ≡ length self.old.events + 1 }
-        ensures same { LeavesSame (IsMemLeft self.old (moment_after self.old.events)) (IsMemLeft self.new (moment_after self.new.events)) }
-        ensures past { (t : ℕ) (c : List ℕ) → t < moment_after self.new.events → IsMemLeft self.new t c ↔ IsMemLeft self.old t c }
-        ensures cause { HasFault self.old.faults.count self.new.faults.count self.old.faults.last self.new.faults.last when result }
+        ensures same { LeavesSame (IsMemLeftNow self.old) (IsMemLeftNow self.new) }
+        ensures past { SameMemPast self.old self.new }
+        ensures cause { HasFault self.old.faults.count self.new.faults.count self.old.faults.last
+            self.new.faults.last when result }
         ensures refused { IsErr result ↔ IsTrue refused }
+        ensures served { ¬ IsTrue refused → IsOk result }
     {
         self.idle();
         if refused {
@@ -219,7 +230,8 @@ impl MemHalf {
         Ok(())
     }
 
-    /// Writes at the call of number `when`, which fails where it is refused, or where memory is out.
+    /// Writes at the call of number `when`, which fails where it is refused, or where memory is
+    /// out.
     pub fn write(&mut self, when: u64, refused: bool, at: u64, bytes: &[u8]) -> Result<(), Failed>
         requires call { when ≡ next_call (length self.old.events) }
         requires past { self.old.faults.last ≤ when }
@@ -227,10 +239,13 @@ impl MemHalf {
         ensures written { OnOk result (HasAt at bytes.now self.new.bytes.items) }
         ensures torn { Torn at (length bytes.now) self.old.bytes.items self.new.bytes.items }
         ensures length { length self.new.events ≡ length self.old.events + 1 }
-        ensures crash { LeavesTorn at (length bytes.now) (IsMemLeft self.old (moment_after self.old.events)) (IsMemLeft self.new (moment_after self.new.events)) }
-        ensures crash_all { LeavesEachTorn at (length bytes.now) (IsMemLeft self.old (moment_after self.old.events)) (IsMemLeft self.new (moment_after self.new.events)) }
-        ensures past { (t : ℕ) (c : List ℕ) → t < moment_after self.new.events → IsMemLeft self.new t c ↔ IsMemLeft self.old t c }
-        ensures cause { HasFault self.old.faults.count self.new.faults.count self.old.faults.last self.new.faults.last when result }
+        ensures crash { LeavesTorn at (length bytes.now) (IsMemLeftNow self.old)
+            (IsMemLeftNow self.new) }
+        ensures crash_all { LeavesEachTorn at (length bytes.now) (IsMemLeftNow self.old)
+            (IsMemLeftNow self.new) }
+        ensures past { SameMemPast self.old self.new }
+        ensures cause { HasFault self.old.faults.count self.new.faults.count self.old.faults.last
+            self.new.faults.last when result }
         ensures refused { IsTrue refused → IsErr result }
     {
         if refused {
@@ -254,10 +269,12 @@ impl MemHalf {
         ensures bytes { self.new.bytes ≡ self.old.bytes }
         ensures length { length self.new.events ≡ length self.old.events + 1 }
         ensures durable { OnOk result (LeavesOnly self.old.bytes.items (IsMemLeft self.new when)) }
-        ensures crash { LeavesNoMore (IsMemLeft self.old (moment_after self.old.events)) (IsMemLeft self.new (moment_after self.new.events)) }
-        ensures crash_failed { OnErr result (LeavesSame (IsMemLeft self.old (moment_after self.old.events)) (IsMemLeft self.new when)) }
-        ensures past { (t : ℕ) (c : List ℕ) → t < moment_after self.new.events → IsMemLeft self.new t c ↔ IsMemLeft self.old t c }
-        ensures cause { HasFault self.old.faults.count self.new.faults.count self.old.faults.last self.new.faults.last when result }
+        ensures crash { LeavesNoMore (IsMemLeftNow self.old) (IsMemLeftNow self.new) }
+        ensures crash_failed { OnErr result
+            (LeavesSame (IsMemLeftNow self.old) (IsMemLeft self.new when)) }
+        ensures past { SameMemPast self.old self.new }
+        ensures cause { HasFault self.old.faults.count self.new.faults.count self.old.faults.last
+            self.new.faults.last when result }
         ensures refused { IsTrue refused → IsErr result }
     {
         if refused {

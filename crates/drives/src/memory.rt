@@ -1,5 +1,5 @@
 // Halves in memory whose calls can be made to fail, and whose images can be had.
-ghost use Rattle.std.specs.Prelude.{◌≡◌, ◌⊎◌, ◌↔◌, ℕ, ◌+◌, ◌-◌, ◌*◌, ◌^◌, ◌<◌, ◌≤◌, min, List, length, vec_len, IfOk, IsTrue, Contains};
+ghost use Rattle.std.specs.Prelude.{◌≡◌, ◌≢◌, ◌⊎◌, ◌↔◌, ℕ, ◌+◌, ◌-◌, ◌*◌, ◌^◌, ◌<◌, ◌≤◌, min, List, [], length, vec_len, IfOk, IsTrue, Contains};
 ghost use Rattle.drives.specs.Crash.{Ticks};
 ghost use Rattle.drives.specs.New.{IsHalfLength, IsNew, blank_bytes};
 
@@ -7,7 +7,7 @@ use crate::Failed;
 use crate::call::Pick;
 use crate::device::{Drives, Half};
 use crate::mem_half::MemHalf;
-use crate::out_of_memory::Memory;
+use afs_base::Memory;
 use std::alloc::Global;
 
 /// Two halves in memory with a list of the call numbers that fail.
@@ -30,11 +30,12 @@ pub struct MemDrives {
     ghost last_b: { b.faults.last ≤ time },
 }
 
-// A moment passes, and the call of its number fails where it is listed, or where the clock has ended.
+// A moment passes, and the call of its number fails where it is listed, or where the clock has
+// ended.
 fn tick(time: &mut u64, failing: &Vec<u64>) -> bool
     ensures time { Ticks time.old time.new }
-    ensures listed { Contains failing.now.items (time.old + 1) → IsTrue result }
-    ensures refused { IsTrue result ↔ ((time.old ≡ 2 ^ 64 - 1) ⊎ Contains failing.now.items time.new) }
+    ensures refused { IsTrue result ↔ ((time.old ≡ 2 ^ 64 - 1)
+        ⊎ Contains failing.now.items (time.old + 1)) }
 {
     if *time == u64::MAX {
         return true;
@@ -48,14 +49,16 @@ impl MemDrives {
     ghost use Rattle.drives.specs.Left.{failing_calls, mem_half, recorded_at};
     ghost use Rattle.drives.specs.Replay.{IsPicked};
 
-    /// Halves of `blocks` blocks of zeros.
+    /// Halves of `blocks` blocks of zeros. No call fails until `fail_at` says so.
     pub fn blank(alloc: Global, blocks: u32) -> Result<MemDrives, Memory>
         requires some { 1 ≤ blocks }
         requires most { blocks ≤ 65536 }
         ensures size { IfOk result (λ d. ⟦<MemDrives as Drives>⟧.size d ≡ blocks) }
-        ensures fresh { IfOk result (IsNew ⟦<MemDrives as Drives>⟧.size ⟦<MemDrives as Drives>⟧.moment ⟦<MemDrives as Drives>⟧.seen
-            ⟦<MemDrives as Drives>⟧.may_leave ⟦<MemDrives as Drives>⟧.faults ⟦<MemDrives as Drives>⟧.last_fault
-            (blank_bytes blocks) (blank_bytes blocks)) }
+        ensures fresh { IfOk result (IsNew ⟦<MemDrives as Drives>⟧.size
+            ⟦<MemDrives as Drives>⟧.moment ⟦<MemDrives as Drives>⟧.seen
+            ⟦<MemDrives as Drives>⟧.may_leave ⟦<MemDrives as Drives>⟧.faults
+            ⟦<MemDrives as Drives>⟧.last_fault (blank_bytes blocks) (blank_bytes blocks)) }
+        ensures unlisted { IfOk result (λ d. failing_calls d ≡ []) }
     {
         let len = 1024 * blocks as usize;
         let a = vec![in alloc; 0; len]?;
@@ -67,8 +70,11 @@ impl MemDrives {
     pub fn of_halves(alloc: Global, a: Vec<u8>, b: Vec<u8>) -> Result<MemDrives, Memory>
         requires equal { vec_len b ≡ vec_len a }
         requires whole { IsHalfLength (vec_len a) }
-        ensures { IfOk result (IsNew ⟦<MemDrives as Drives>⟧.size ⟦<MemDrives as Drives>⟧.moment ⟦<MemDrives as Drives>⟧.seen
-            ⟦<MemDrives as Drives>⟧.may_leave ⟦<MemDrives as Drives>⟧.faults ⟦<MemDrives as Drives>⟧.last_fault a.items b.items) }
+        ensures fresh { IfOk result (IsNew ⟦<MemDrives as Drives>⟧.size
+            ⟦<MemDrives as Drives>⟧.moment ⟦<MemDrives as Drives>⟧.seen
+            ⟦<MemDrives as Drives>⟧.may_leave ⟦<MemDrives as Drives>⟧.faults
+            ⟦<MemDrives as Drives>⟧.last_fault a.items b.items) }
+        ensures unlisted { IfOk result (λ d. failing_calls d ≡ []) }
     {
         let blocks = (a.len() / 1024) as u32;
         Ok(MemDrives {
@@ -91,16 +97,25 @@ impl MemDrives {
         }
     }
 
-    /// New halves that hold what a crash at a moment might have left: in each range that was written and not synced by
-    /// then, what the pick says. A failed write counts as one that left the bytes as they were.
+    /// New halves that hold what a crash at a moment might have left: in each range that was
+    /// written and not synced by then, what the pick says. A failed write counts as one that left
+    /// the bytes as they were. No call of the new halves fails until `fail_at` says so.
     pub fn image(&self, moment: u64, pick: Pick) -> Result<MemDrives, Memory>
         requires { moment ≤ ⟦<MemDrives as Drives>⟧.moment self.now }
-        ensures fresh { IfOk result (λ d. IsNew ⟦<MemDrives as Drives>⟧.size ⟦<MemDrives as Drives>⟧.moment ⟦<MemDrives as Drives>⟧.seen
-            ⟦<MemDrives as Drives>⟧.may_leave ⟦<MemDrives as Drives>⟧.faults ⟦<MemDrives as Drives>⟧.last_fault
-            (⟦<MemDrives as Drives>⟧.seen d Half.A) (⟦<MemDrives as Drives>⟧.seen d Half.B) d) }
-        ensures size { IfOk result (λ d. ⟦<MemDrives as Drives>⟧.size d ≡ ⟦<MemDrives as Drives>⟧.size self.now) }
-        ensures left { IfOk result (λ d. (h : Half) → ⟦<MemDrives as Drives>⟧.may_leave self.now h moment (⟦<MemDrives as Drives>⟧.seen d h)) }
-        ensures picked { IfOk result (λ d. (h : Half) → IsPicked pick (recorded_at (mem_half self.now h) moment) (⟦<MemDrives as Drives>⟧.seen d h)) }
+        ensures fresh { IfOk result (λ d. IsNew ⟦<MemDrives as Drives>⟧.size
+            ⟦<MemDrives as Drives>⟧.moment ⟦<MemDrives as Drives>⟧.seen
+            ⟦<MemDrives as Drives>⟧.may_leave ⟦<MemDrives as Drives>⟧.faults
+            ⟦<MemDrives as Drives>⟧.last_fault (⟦<MemDrives as Drives>⟧.seen d Half.A)
+            (⟦<MemDrives as Drives>⟧.seen d Half.B) d) }
+        ensures unlisted { IfOk result (λ d. failing_calls d ≡ []) }
+        ensures size { IfOk result
+            (λ d. ⟦<MemDrives as Drives>⟧.size d ≡ ⟦<MemDrives as Drives>⟧.size self.now) }
+        ensures left { IfOk result (λ d. (h : Half)
+            → ⟦<MemDrives as Drives>⟧.may_leave self.now h moment
+            (⟦<MemDrives as Drives>⟧.seen d h)) }
+        ensures picked { IfOk result (λ d. (h : Half)
+            → IsPicked pick (recorded_at (mem_half self.now h) moment)
+            (⟦<MemDrives as Drives>⟧.seen d h)) }
     {
         MemDrives::of_halves(
             self.alloc,
@@ -113,8 +128,10 @@ impl MemDrives {
     pub fn fail_at(&mut self, calls: Vec<u64>)
         ensures listed { failing_calls self.new ≡ calls.items }
         ensures halves { (h : Half) → mem_half self.new h ≡ mem_half self.old h }
-        ensures size { ⟦<MemDrives as Drives>⟧.size self.new ≡ ⟦<MemDrives as Drives>⟧.size self.old }
-        ensures moment { ⟦<MemDrives as Drives>⟧.moment self.new ≡ ⟦<MemDrives as Drives>⟧.moment self.old }
+        ensures size { ⟦<MemDrives as Drives>⟧.size self.new ≡ ⟦<MemDrives as Drives>⟧.size
+            self.old }
+        ensures moment { ⟦<MemDrives as Drives>⟧.moment self.new ≡ ⟦<MemDrives as Drives>⟧.moment
+            self.old }
     {
         self.failing = calls;
     }
@@ -138,6 +155,8 @@ impl Drives for MemDrives {
     ghost last_fault = { λ d h. (mem_half d h).faults.last };
 
     ghost refuses = { λ d. Contains (failing_calls d) (d.time + 1) };
+
+    ghost serves_reads = { λ d. (d.time ≢ 2 ^ 64 - 1) × ¬ Contains (failing_calls d) (d.time + 1) };
 
     fn blocks(&self) -> u32 {
         self.blocks
@@ -200,9 +219,13 @@ impl Drives for MemDrives {
 
     ghost whole = { Prim.search (rules, common_steps) };
 
-    ghost use Rattle.drives.specs.LeftLaws.{length-left, left_seen};
+    ghost use Rattle.drives.specs.LeftLaws.{length-left, left_seen, seen_fits};
 
     ghost left_whole = { λ d h c left. length-left d h c left };
 
     ghost left_read = { λ d h _. left_seen d h };
+
+    ghost seen_bytes = { λ d h _. seen_fits d h };
+
+    ghost left_bytes = { λ d h t c left. left.fits };
 }

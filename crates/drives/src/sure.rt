@@ -1,6 +1,7 @@
 // Halves in memory whose calls never fail but at the clock's end.
 ghost use Rattle.std.specs.Prelude.{◌≡◌, ℕ, ◌+◌, ◌-◌, ◌*◌, ◌^◌, ◌<◌, ◌≤◌, List, [], ◌∷◌, length, vec_len, OnOk, OnErr, IfOk, IsOk};
 ghost use Rattle.drives.specs.Half.{other};
+ghost use Rattle.drives.specs.Bytes.{IsBytes};
 ghost use Rattle.drives.specs.Crash.{HasAt, LeavesEachTorn, LeavesOnly, LeavesTorn, Torn};
 ghost use Rattle.drives.specs.Images.{IsImage};
 ghost use Rattle.drives.specs.New.{IsHalfLength, IsNew, blank_bytes};
@@ -9,7 +10,7 @@ use crate::Failed;
 use crate::bytes::{copy_out, write_over};
 use crate::device::{Drives, Half};
 use crate::history::{Remembered, Span};
-use crate::out_of_memory::Memory;
+use afs_base::Memory;
 use std::alloc::Global;
 use std::snapshot::Snapshot;
 
@@ -20,7 +21,8 @@ pub struct Moment {
     spans: Snapshot<Remembered<Span>>,
 }
 
-/// A half: its bytes, the ranges written since its last sync, its past moments, and the moment of its last fault.
+/// A half: its bytes, the ranges written since its last sync, its past moments, and the moment of
+/// its last fault.
 #[derive(Drop)]
 pub struct SureHalf {
     bytes: Vec<u8>,
@@ -29,7 +31,8 @@ pub struct SureHalf {
     last: u64,
 }
 
-/// Two halves in memory that take no memory for what they remember, and whose calls fail at the clock's end alone.
+/// Two halves in memory that take no memory for what they remember, and whose calls fail at the
+/// clock's end alone.
 #[derive(Drop)]
 pub struct SureDrives {
     a: SureHalf,
@@ -44,6 +47,8 @@ pub struct SureDrives {
     ghost known_b: { length b.past ≡ time },
     ghost last_a: { a.last ≤ time },
     ghost last_b: { b.last ≤ time },
+    ghost fits_a: { IsBytes a.bytes.items },
+    ghost fits_b: { IsBytes b.bytes.items },
 }
 
 impl SureHalf {
@@ -51,6 +56,7 @@ impl SureHalf {
 
     fn new(bytes: Vec<u8>) -> SureHalf
         ensures bytes { result.bytes.items ≡ bytes.items }
+        ensures fits { IsBytes result.bytes.items }
         ensures spans { result.spans ≡ [] }
         ensures past { result.past ≡ [] }
         ensures last { result.last ≡ 0 }
@@ -77,9 +83,13 @@ impl SureHalf {
 
     // Names a range that holds anything until the next sync.
     fn tear(&mut self, at: u64, len: u64)
-        ensures spans { (s : Span) × (self.new.spans ≡ s ∷ self.old.spans) × (s.at ≡ at) × (s.len ≡ len) }
-        ensures crash { LeavesTorn at len (IsImage self.old.spans self.old.bytes.items) (IsImage self.new.spans self.new.bytes.items) }
-        ensures crash_all { LeavesEachTorn at len (IsImage self.old.spans self.old.bytes.items) (IsImage self.new.spans self.new.bytes.items) }
+        requires { IsBytes self.old.bytes.items }
+        ensures spans { (s : Span) × (self.new.spans ≡ s ∷ self.old.spans) × (s.at ≡ at)
+            × (s.len ≡ len) }
+        ensures crash { LeavesTorn at len (IsImage self.old.spans self.old.bytes.items)
+            (IsImage self.new.spans self.new.bytes.items) }
+        ensures crash_all { LeavesEachTorn at len (IsImage self.old.spans self.old.bytes.items)
+            (IsImage self.new.spans self.new.bytes.items) }
         ensures bytes { self.new.bytes ≡ self.old.bytes }
         ensures past { self.new.past ≡ self.old.past }
         ensures last { self.new.last ≡ self.old.last }
@@ -88,12 +98,19 @@ impl SureHalf {
     }
 
     fn put(&mut self, at: u64, bytes: &[u8])
-        requires { at + length bytes.now ≤ length self.old.bytes.items }
+        requires range { at + length bytes.now ≤ length self.old.bytes.items }
+        requires fits { IsBytes self.old.bytes.items }
+        ensures fits { IsBytes self.new.bytes.items }
         ensures written { HasAt at bytes.now self.new.bytes.items }
         ensures range { Torn at (length bytes.now) self.old.bytes.items self.new.bytes.items }
-        ensures spans { (s : Span) × (self.new.spans ≡ s ∷ self.old.spans) × (s.at ≡ at) × (s.len ≡ length bytes.now) }
-        ensures crash { LeavesTorn at (length bytes.now) (IsImage self.old.spans self.old.bytes.items) (IsImage self.new.spans self.new.bytes.items) }
-        ensures crash_all { LeavesEachTorn at (length bytes.now) (IsImage self.old.spans self.old.bytes.items) (IsImage self.new.spans self.new.bytes.items) }
+        ensures spans { (s : Span) × (self.new.spans ≡ s ∷ self.old.spans) × (s.at ≡ at)
+            × (s.len ≡ length bytes.now) }
+        ensures crash { LeavesTorn at (length bytes.now)
+            (IsImage self.old.spans self.old.bytes.items)
+            (IsImage self.new.spans self.new.bytes.items) }
+        ensures crash_all { LeavesEachTorn at (length bytes.now)
+            (IsImage self.old.spans self.old.bytes.items)
+            (IsImage self.new.spans self.new.bytes.items) }
         ensures past { self.new.past ≡ self.old.past }
         ensures last { self.new.last ≡ self.old.last }
     {
@@ -121,9 +138,10 @@ impl SureDrives {
         requires some { 1 ≤ blocks }
         requires most { blocks ≤ 65536 }
         ensures size { IfOk result (λ d. ⟦<SureDrives as Drives>⟧.size d ≡ blocks) }
-        ensures fresh { IfOk result (IsNew ⟦<SureDrives as Drives>⟧.size ⟦<SureDrives as Drives>⟧.moment ⟦<SureDrives as Drives>⟧.seen
-            ⟦<SureDrives as Drives>⟧.may_leave ⟦<SureDrives as Drives>⟧.faults ⟦<SureDrives as Drives>⟧.last_fault
-            (blank_bytes blocks) (blank_bytes blocks)) }
+        ensures fresh { IfOk result (IsNew ⟦<SureDrives as Drives>⟧.size
+            ⟦<SureDrives as Drives>⟧.moment ⟦<SureDrives as Drives>⟧.seen
+            ⟦<SureDrives as Drives>⟧.may_leave ⟦<SureDrives as Drives>⟧.faults
+            ⟦<SureDrives as Drives>⟧.last_fault (blank_bytes blocks) (blank_bytes blocks)) }
     {
         let len = 1024 * blocks as usize;
         let a = vec![in alloc; 0; len]?;
@@ -136,8 +154,10 @@ impl SureDrives {
         requires equal { vec_len b ≡ vec_len a }
         requires whole { IsHalfLength (vec_len a) }
         ensures memory { IsOk result }
-        ensures fresh { IfOk result (IsNew ⟦<SureDrives as Drives>⟧.size ⟦<SureDrives as Drives>⟧.moment ⟦<SureDrives as Drives>⟧.seen
-            ⟦<SureDrives as Drives>⟧.may_leave ⟦<SureDrives as Drives>⟧.faults ⟦<SureDrives as Drives>⟧.last_fault a.items b.items) }
+        ensures fresh { IfOk result (IsNew ⟦<SureDrives as Drives>⟧.size
+            ⟦<SureDrives as Drives>⟧.moment ⟦<SureDrives as Drives>⟧.seen
+            ⟦<SureDrives as Drives>⟧.may_leave ⟦<SureDrives as Drives>⟧.faults
+            ⟦<SureDrives as Drives>⟧.last_fault a.items b.items) }
     {
         let blocks = (a.len() / 1024) as u32;
         Ok(SureDrives {
@@ -164,9 +184,12 @@ impl SureDrives {
         ensures remembers_b { OnOk result (Remembers self.old.b self.new.b) }
         ensures time { OnOk result (self.new.time ≡ self.old.time + 1) }
         ensures early { OnOk result (self.old.time < 2 ^ 64 - 1) }
-        ensures ends { OnErr result ((self.old.time ≡ 2 ^ 64 - 1) × (self.new.time ≡ self.old.time)) }
-        ensures fault { OnErr result (sure_half self.new half ≡ record (sure_half self.old half) { last = self.old.time }) }
-        ensures other { OnErr result (sure_half self.new (other half) ≡ sure_half self.old (other half)) }
+        ensures ends { OnErr result ((self.old.time ≡ 2 ^ 64 - 1)
+            × (self.new.time ≡ self.old.time)) }
+        ensures fault { OnErr result (sure_half self.new half ≡ record (sure_half self.old half)
+            { last = self.old.time }) }
+        ensures other { OnErr result (sure_half self.new (other half) ≡ sure_half self.old
+            (other half)) }
         ensures size { self.new.blocks ≡ self.old.blocks }
     {
         if self.time == u64::MAX {
@@ -199,6 +222,8 @@ impl Drives for SureDrives {
     ghost faults = { λ d h. 0 };
 
     ghost last_fault = { λ d h. (sure_half d h).last };
+
+    ghost serves_reads = { λ d. d.time < 2 ^ 64 - 1 };
 
     fn blocks(&self) -> u32 {
         self.blocks
@@ -251,4 +276,10 @@ impl Drives for SureDrives {
     ghost left_whole = { Prim.search (rules, common_steps) };
 
     ghost left_read = { Prim.search (rules, common_steps) };
+
+    ghost use Rattle.drives.specs.SureLaws.{left_fits, seen_fits};
+
+    ghost seen_bytes = { λ d h _. seen_fits d h };
+
+    ghost left_bytes = { λ d h t c left. left_fits d h t c left };
 }

@@ -1,5 +1,6 @@
-use Rattle.std.proofs.Common.{refl, ap}
+use Rattle.std.proofs.Common.{refl, sym, ap, subst, List, ℕ}
 use Rattle.drives.specs.declared.call.Event.{Event}
+use Rattle.drives.specs.Bytes.{IsBytes}
 use Rattle.drives.specs.Replay.{happened, state}
 use Rattle.drives.proofs.Tearing.{untorn}
 use Rattle.drives.proofs.Moments.{tearing_torn, tearing_each}
@@ -10,6 +11,7 @@ returns-clause-crash c =
     let half = c.args.self.now in
     let happens = ap (λ (e : Event). happened e (state half.first.items half.events)) c.of.ensures in
     tearing_torn half.first.items c.of.result.value half.events c.push.new.self c.push.ensures c.args.at c.args.len _ happens refl (untorn _ _ _)
+    (subst (λ (b : List ℕ). IsBytes b) (sym half.known) half.bytes_fit)
 
 pub returns-clause-crash_all : goal.returns-clause-crash_all
 returns-clause-crash_all c =

@@ -9,4 +9,4 @@ returns-clause-left c =
     let self = c.args.self.now in
     IfOk-weaker c.of_halves.result _ _ (λ d new. each_half _
     (subst (λ (x : List ℕ). IsMemLeft self.a c.args.moment x) (sym new.half_a) c.in_ok-image.ensures.left)
-    (subst (λ (x : List ℕ). IsMemLeft self.b c.args.moment x) (sym new.half_b) c.in_ok-image-2.ensures.left)) c.of_halves.ensures
+    (subst (λ (x : List ℕ). IsMemLeft self.b c.args.moment x) (sym new.half_b) c.in_ok-image-2.ensures.left)) c.of_halves.ensures.fresh

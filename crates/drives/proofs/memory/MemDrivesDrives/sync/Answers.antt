@@ -1,4 +1,4 @@
-use Rattle.std.proofs.Common.{◌<◌, ℕ, OnErr, subst, arith}
+use Rattle.std.proofs.Common.{inr, ◌<◌, ℕ, OnErr, subst, arith}
 use Rattle.drives.specs.Crash.{LeavesSame}
 use Rattle.drives.specs.Left.{IsMemLeft, moment_after}
 use Rattle.drives.proofs.Halves.{each_half}
@@ -20,7 +20,7 @@ returns-in-A-clause-past c =
     (λ t x low. let early : t < moment_after c.idle.new.self.events = omega arith in c.idle.ensures.past t x early)
 
 pub returns-in-A-clause-refused : goal.returns-in-A-clause-refused
-returns-in-A-clause-refused c = λ listed. c.sync.ensures.refused (c.tick-refused.ensures.listed listed)
+returns-in-A-clause-refused c = λ listed. c.sync.ensures.refused (c.tick-refused.ensures.refused.1 (inr listed))
 
 pub returns-in-B-clause-durable : goal.returns-in-B-clause-durable
 returns-in-B-clause-durable c = λ _. rw c.in-B.is c.sync-in-B.ensures.durable
@@ -38,4 +38,4 @@ returns-in-B-clause-past c =
     (λ t x low. let early : t < moment_after c.sync-in-B.new.self.events = omega arith in c.sync-in-B.ensures.past t x early)
 
 pub returns-in-B-clause-refused : goal.returns-in-B-clause-refused
-returns-in-B-clause-refused c = λ listed. c.sync-in-B.ensures.refused (c.tick-refused.ensures.listed listed)
+returns-in-B-clause-refused c = λ listed. c.sync-in-B.ensures.refused (c.tick-refused.ensures.refused.1 (inr listed))

@@ -1,4 +1,4 @@
-use Rattle.std.proofs.Common.{◌<◌, arith}
+use Rattle.std.proofs.Common.{inr, ◌<◌, arith}
 use Rattle.drives.specs.Left.{moment_after}
 use Rattle.drives.proofs.Halves.{each_half}
 use Rattle.drives.proofs.memory.MemDrivesDrives.write.Goals as goal
@@ -13,7 +13,7 @@ returns-in-A-clause-past c =
     (λ t x low. let early : t < moment_after c.idle.new.self.events = omega arith in c.idle.ensures.past t x early)
 
 pub returns-in-A-clause-refused : goal.returns-in-A-clause-refused
-returns-in-A-clause-refused c = λ listed. c.write.ensures.refused (c.tick-refused.ensures.listed listed)
+returns-in-A-clause-refused c = λ listed. c.write.ensures.refused (c.tick-refused.ensures.refused.1 (inr listed))
 
 pub returns-in-B-clause-written : goal.returns-in-B-clause-written
 returns-in-B-clause-written c = λ _. rw c.in-B.is c.write-in-B.ensures.written
@@ -25,4 +25,4 @@ returns-in-B-clause-past c =
     (λ t x low. let early : t < moment_after c.write-in-B.new.self.events = omega arith in c.write-in-B.ensures.past t x early)
 
 pub returns-in-B-clause-refused : goal.returns-in-B-clause-refused
-returns-in-B-clause-refused c = λ listed. c.write-in-B.ensures.refused (c.tick-refused.ensures.listed listed)
+returns-in-B-clause-refused c = λ listed. c.write-in-B.ensures.refused (c.tick-refused.ensures.refused.1 (inr listed))
