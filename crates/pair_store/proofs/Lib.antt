@@ -9,3 +9,4 @@ pub mod VersionLaws
 pub mod PageWriting
 pub mod MendLaws
 pub mod ClosingLaws
+pub mod RestLaws

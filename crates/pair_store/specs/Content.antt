@@ -14,7 +14,8 @@ IsOpen half n = gate half n ≡ 165
 abbrev pub block_on : List ℕ → ℕ → List ℕ
 block_on half n = take 1024 (drop (1024 * n) half)
 
--- the content of a block: half B's where it is open there, else half A's where it is open there, else none
+-- the content of a block: half B's where it is open there, else half A's where it is open there,
+-- else none
 abbrev pub content_of : Halves → ℕ → Option (List ℕ)
 content_of x n = if gate x.b n == 165 then Some (block_on x.b n) else (if gate x.a n == 165 then Some (block_on x.a n) else None)
 

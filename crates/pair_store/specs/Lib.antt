@@ -3,6 +3,7 @@ pub mod ContentLaws
 pub mod Stages
 pub mod Blocks
 pub mod Faults
+pub mod Pairs
 pub mod Pages
 pub mod Edits
 pub mod Answers

@@ -10,8 +10,8 @@ use Rattle.pair_store.specs.declared.outcome.Mended.{Mended}
 use Rattle.pair_store.specs.declared.outcome.Mended.TheVariants.{Same, Copied, Nothing}
 use Rattle.pair_store.specs.Content.{IsOpen, block_on, gate}
 
--- this half of a block has to become equal to the other: half A where half B is open and they differ, half B where it is
--- closed and half A is open
+-- this half of a block has to become equal to the other: half A where half B is open and they
+-- differ, half B where it is closed and half A is open
 abbrev pub IsStale : ℕ → Halves → Half → Type 0
 IsStale n x A = IsOpen x.b n × (block_on x.a n ≢ block_on x.b n)
 IsStale n x B = (gate x.b n ≢ 165) × IsOpen x.a n
@@ -61,7 +61,8 @@ IsCopy from (Err (WriteFault h)) = h ≡ other from
 IsCopy from (Err (BothClosed m)) = ⊥
 IsCopy from (Err (BadPage m why)) = ⊥
 
--- what mending does with these bytes of a block on half A and on half B, and the bytes that it copies
+-- what mending does with these bytes of a block on half A and on half B, and the bytes that it
+-- copies
 abbrev pub IsPlan : List ℕ → List ℕ → List ℕ → Mended → Type 0
 IsPlan a b body Same = (slice_index b 0 ≡ 165) × (a ≡ b)
 IsPlan a b body (Copied A) = (slice_index b 0 ≢ 165) × (slice_index a 0 ≡ 165) × (body ≡ a)

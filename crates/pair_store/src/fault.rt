@@ -10,7 +10,8 @@ pub enum PairFault {
     /// The half failed in a read, and the other half failed too or has no content.
     #[error("half {half:?} failed in a read")]
     ReadFault { half: Half },
-    /// The half failed in a write. The block has its old content or the new one, and has to be mended.
+    /// The half failed in a write. The block has its old content or the new one, and has to be
+    /// mended.
     #[error("half {half:?} failed in a write")]
     WriteFault { half: Half },
     /// The block has no content: it is closed on both halves.

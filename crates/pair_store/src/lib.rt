@@ -1,4 +1,5 @@
-//! Blocks on two halves of which one may be torn: each write leaves the old content or the new one, wherever a crash falls.
+//! Blocks on two halves of which one may be torn: each write leaves the old content or the new one,
+//! wherever a crash falls.
 #![tactic(auto)]
 
 mod both;

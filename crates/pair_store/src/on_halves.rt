@@ -7,8 +7,11 @@ ghost use Rattle.pair_store.specs.Blocks.{SameContents, SameOthers};
 ghost use Rattle.pair_store.specs.Content.{ContentsLeft, IsSettled, IsSettledAlways, content_of};
 ghost use Rattle.pair_store.specs.declared.fault.PairFault.{PairFault};
 ghost use Rattle.pair_store.specs.Answers.{IsReadFault};
-ghost use Rattle.pair_store.specs.Faults.{IsStopped, IsUnread};
+ghost use Rattle.pair_store.specs.Faults.{IsStopped, IsUnread, LaterFaults};
+ghost use Rattle.drives.specs.Faults.{HasFailed};
+ghost use Rattle.pair_store.specs.Found.{IsPairRead};
 ghost use Rattle.pair_store.specs.Mending.{IsCopy, IsFaultOf, IsHalfFault, IsMended, WroteNothing};
+ghost use Rattle.drives.specs.Faults.{SameFaults};
 
 use crate::Block;
 use crate::content_read::read_content;
@@ -29,10 +32,12 @@ pub struct Pair<V> {
 }
 
 impl<V: Drives> Pair<V> {
+    ghost use Rattle.pair_store.specs.Pairs.{drives_of, operations_of};
+
     /// A pair on these drives, with no operation yet. It makes no call of them.
     pub fn over(drives: V) -> Pair<V>
-        ensures drives { result.drives ≡ drives }
-        ensures operations { result.operations ≡ 0 }
+        ensures drives { drives_of result ≡ drives }
+        ensures operations { operations_of result ≡ 0 }
     {
         Pair {
             drives,
@@ -42,7 +47,7 @@ impl<V: Drives> Pair<V> {
 
     /// The drives, as they are.
     pub fn into_drives(self) -> V
-        ensures { result ≡ self.drives }
+        ensures { result ≡ drives_of self }
     {
         let Pair {
             drives,
@@ -53,65 +58,95 @@ impl<V: Drives> Pair<V> {
 
     /// The drives, for their counts of faults and the moments of their last ones.
     pub fn faults_of(&self) -> &V
-        ensures { result.now ≡ self.now.drives }
+        ensures { result.now ≡ drives_of self.now }
     {
         &self.drives
     }
 
-    /// Reads a block on both halves, and makes the other half equal to the half that gives its content. No content changes, whichever call
-    /// fails and wherever a crash falls, so mending may be cut off and begun anew. It ends at its first failed call, with the half that failed
-    /// then, and answers no fault but `ReadFault` and `WriteFault`. It does not count as an operation.
+    /// Reads a block on both halves, and makes the other half equal to the half that gives its
+    /// content. No content changes, whichever call fails and wherever a crash falls, so mending may
+    /// be cut off and begun anew. It ends at its first failed call, with the half that failed then,
+    /// and answers no fault but `ReadFault` and `WriteFault`. It does not count as an operation.
     pub fn mend(&mut self, n: BlockNo) -> Result<Mended, PairFault>
-        requires { n < V.size self.old.drives }
+        requires { n < V.size (drives_of self.old) }
         ensures only { IfErr result IsHalfFault }
-        ensures answer { V.tells → IsMended n (halves_seen V.seen self.old.drives) result }
+        ensures answer { V.tells → IsMended n (halves_seen V.seen (drives_of self.old)) result }
         ensures stopped { (h : Half) → IsFaultOf h result
-            → IsStopped (V.faults self.old.drives) (V.faults self.new.drives) (V.last_fault self.new.drives) (V.moment self.new.drives) h }
+            → IsStopped (V.faults (drives_of self.old)) (V.faults (drives_of self.new))
+            (V.last_fault (drives_of self.new)) (V.moment (drives_of self.new)) h }
         ensures unfailed { (h : Half) → (IsFaultOf h result → ⊥)
-            → (V.faults self.new.drives h ≡ V.faults self.old.drives h) × (V.last_fault self.new.drives h ≡ V.last_fault self.old.drives h) }
+            → SameFaults (V.faults (drives_of self.old)) (V.faults (drives_of self.new))
+            (V.last_fault (drives_of self.old)) (V.last_fault (drives_of self.new)) h }
 
-        ensures contents { V.tells → SameContents (⟦<Pair<V> as Blocks>⟧.content self.old) (⟦<Pair<V> as Blocks>⟧.content self.new) }
+        ensures contents { V.tells → SameContents (⟦<Pair<V> as Blocks>⟧.content self.old)
+            (⟦<Pair<V> as Blocks>⟧.content self.new) }
         // The half that is copied from stays as it is.
-        ensures source { V.tells → (from : Half) → IsCopy from result → V.seen self.new.drives from ≡ V.seen self.old.drives from }
-        ensures unwritten { WroteNothing result → (h : Half) → (V.tells → V.seen self.new.drives h ≡ V.seen self.old.drives h)
-            × LeavesSame (V.may_leave self.old.drives h (V.moment self.old.drives)) (V.may_leave self.new.drives h (V.moment self.new.drives)) }
-        ensures reads { WroteNothing result → OnOk result (V.moment self.new.drives ≡ min (V.moment self.old.drives + 2) (2 ^ 64 - 1)) }
+        ensures source { V.tells → (from : Half) → IsCopy from result
+            → V.seen (drives_of self.new) from ≡ V.seen (drives_of self.old) from }
+        ensures unwritten { WroteNothing result → (h : Half)
+            → (V.tells → V.seen (drives_of self.new) h ≡ V.seen (drives_of self.old) h)
+            × LeavesSame (V.may_leave (drives_of self.old) h (V.moment (drives_of self.old)))
+            (V.may_leave (drives_of self.new) h (V.moment (drives_of self.new))) }
+        ensures reads { WroteNothing result
+            → OnOk result (V.moment (drives_of self.new) ≡ min (V.moment (drives_of self.old) + 2)
+            (2 ^ 64 - 1)) }
         ensures settles { V.tells → OnOk result (⟦<Pair<V> as Blocks>⟧.settled self.new n) }
-        ensures kept { V.tells → (k : ℕ) → (k ≢ n) ⊎ WroteNothing result → ⟦<Pair<V> as Blocks>⟧.settled self.new k ↔ ⟦<Pair<V> as Blocks>⟧.settled self.old k }
-        ensures kept_always { (k : ℕ) → (k ≢ n) ⊎ WroteNothing result → ⟦<Pair<V> as Blocks>⟧.settled_always self.old k → ⟦<Pair<V> as Blocks>⟧.settled_always self.new k }
+        ensures kept { V.tells → (k : ℕ) → (k ≢ n) ⊎ WroteNothing result
+            → ⟦<Pair<V> as Blocks>⟧.settled self.new k ↔ ⟦<Pair<V> as Blocks>⟧.settled self.old k }
+        ensures kept_always { (k : ℕ) → (k ≢ n) ⊎ WroteNothing result
+            → ⟦<Pair<V> as Blocks>⟧.settled_always self.old k
+            → ⟦<Pair<V> as Blocks>⟧.settled_always self.new k }
 
-        // These three hold where nothing is pending as the call begins: a crash then leaves what reads give.
-        ensures images { V.tells → IsAtRest V.seen V.moment V.may_leave self.old.drives
-            → Changes ⟦<Pair<V> as Blocks>⟧.moment ⟦<Pair<V> as Blocks>⟧.may_leave self.old self.new SameContents }
-        ensures settles_always { V.tells → IsAtRest V.seen V.moment V.may_leave self.old.drives → OnOk result (⟦<Pair<V> as Blocks>⟧.settled_always self.new n) }
-        ensures rest { V.tells → IsAtRest V.seen V.moment V.may_leave self.old.drives → OnOk result (IsAtRest V.seen V.moment V.may_leave self.new.drives) }
-        ensures images_unwritten { WroteNothing result → Changes ⟦<Pair<V> as Blocks>⟧.moment ⟦<Pair<V> as Blocks>⟧.may_leave self.old self.new SameContents }
-        ensures images_others { Changes ⟦<Pair<V> as Blocks>⟧.moment ⟦<Pair<V> as Blocks>⟧.may_leave self.old self.new (SameOthers n) }
+        // These three hold where nothing is pending as the call begins: a crash then leaves what
+        // reads give.
+        ensures images { V.tells → IsAtRest V.seen V.moment V.may_leave (drives_of self.old)
+            → Changes ⟦<Pair<V> as Blocks>⟧.moment ⟦<Pair<V> as Blocks>⟧.may_leave self.old self.new
+            SameContents }
+        ensures settles_always { V.tells → IsAtRest V.seen V.moment V.may_leave (drives_of self.old)
+            → OnOk result (⟦<Pair<V> as Blocks>⟧.settled_always self.new n) }
+        ensures rest { V.tells → IsAtRest V.seen V.moment V.may_leave (drives_of self.old)
+            → OnOk result (IsAtRest V.seen V.moment V.may_leave (drives_of self.new)) }
+        ensures images_unwritten { WroteNothing result
+            → Changes ⟦<Pair<V> as Blocks>⟧.moment ⟦<Pair<V> as Blocks>⟧.may_leave self.old self.new
+            SameContents }
+        ensures images_others { Changes ⟦<Pair<V> as Blocks>⟧.moment ⟦<Pair<V> as Blocks>⟧.may_leave
+            self.old self.new (SameOthers n) }
 
-        ensures uncounted { self.new.operations ≡ self.old.operations }
-        ensures later { (h : Half) → (V.faults self.old.drives h ≤ V.faults self.new.drives h) × (V.last_fault self.old.drives h ≤ V.last_fault self.new.drives h) }
-        ensures size { V.size self.new.drives ≡ V.size self.old.drives }
+        ensures uncounted { operations_of self.new ≡ operations_of self.old }
+        ensures later { LaterFaults (V.faults (drives_of self.old)) (V.faults (drives_of self.new))
+            (V.last_fault (drives_of self.old)) (V.last_fault (drives_of self.new)) }
+        ensures size { V.size (drives_of self.new) ≡ V.size (drives_of self.old) }
     {
         mend_block(&mut self.drives, n.get())
     }
 
-    /// Reads the content of a block while a store is mended. It does not count as an operation, and nothing becomes pending by it. After an
-    /// error the buffer holds anything.
+    /// Reads the content of a block while a store is mended. It does not count as an operation, and
+    /// nothing becomes pending by it. After an error the buffer holds anything.
     pub fn look(&mut self, n: BlockNo, into: &mut Block) -> Result<(), PairFault>
-        requires { n < V.size self.old.drives }
+        requires { n < V.size (drives_of self.old) }
         ensures only { IfErr result (IsReadFault n) }
-        ensures given { V.tells → ⟦<Pair<V> as Blocks>⟧.settled self.old n → OnOk result (⟦<Pair<V> as Blocks>⟧.content self.old n ≡ Some into.new) }
-        ensures closed { V.tells → IsErrOf result (PairFault.BothClosed n) → ⟦<Pair<V> as Blocks>⟧.content self.old n ≡ None }
+        ensures given { V.tells → ⟦<Pair<V> as Blocks>⟧.settled self.old n
+            → OnOk result (⟦<Pair<V> as Blocks>⟧.content self.old n ≡ Some into.new) }
+        ensures reads { V.tells → ⟦<Pair<V> as Blocks>⟧.reads self.old self.new n result into.new }
+        ensures closed { V.tells → IsErrOf result (PairFault.BothClosed n)
+            → ⟦<Pair<V> as Blocks>⟧.content self.old n ≡ None }
         ensures unread { (h : Half) → IsErrOf result (PairFault.ReadFault h)
-            → IsUnread (V.faults self.old.drives) (V.faults self.new.drives) (V.last_fault self.new.drives) (V.moment self.new.drives)
-            (V.tells → ⟦<Pair<V> as Blocks>⟧.settled self.old n → ⟦<Pair<V> as Blocks>⟧.content self.old n ≡ None) h }
-        ensures contents { V.tells → SameContents (⟦<Pair<V> as Blocks>⟧.content self.old) (⟦<Pair<V> as Blocks>⟧.content self.new) }
-        ensures kept { V.tells → (k : ℕ) → ⟦<Pair<V> as Blocks>⟧.settled self.new k ↔ ⟦<Pair<V> as Blocks>⟧.settled self.old k }
-        ensures images { Changes ⟦<Pair<V> as Blocks>⟧.moment ⟦<Pair<V> as Blocks>⟧.may_leave self.old self.new SameContents }
-        ensures rest { V.tells → IsAtRest V.seen V.moment V.may_leave self.old.drives → IsAtRest V.seen V.moment V.may_leave self.new.drives }
-        ensures uncounted { self.new.operations ≡ self.old.operations }
-        ensures later { (h : Half) → (V.faults self.old.drives h ≤ V.faults self.new.drives h) × (V.last_fault self.old.drives h ≤ V.last_fault self.new.drives h) }
-        ensures size { V.size self.new.drives ≡ V.size self.old.drives }
+            → IsUnread (V.faults (drives_of self.old)) (V.faults (drives_of self.new))
+            (V.last_fault (drives_of self.new)) (V.moment (drives_of self.new))
+            (V.tells → ⟦<Pair<V> as Blocks>⟧.settled self.old n
+            → ⟦<Pair<V> as Blocks>⟧.content self.old n ≡ None) h }
+        ensures contents { V.tells → SameContents (⟦<Pair<V> as Blocks>⟧.content self.old)
+            (⟦<Pair<V> as Blocks>⟧.content self.new) }
+        ensures kept { V.tells → (k : ℕ)
+            → ⟦<Pair<V> as Blocks>⟧.settled self.new k ↔ ⟦<Pair<V> as Blocks>⟧.settled self.old k }
+        ensures images { Changes ⟦<Pair<V> as Blocks>⟧.moment ⟦<Pair<V> as Blocks>⟧.may_leave
+            self.old self.new SameContents }
+        ensures rest { V.tells → IsAtRest V.seen V.moment V.may_leave (drives_of self.old)
+            → IsAtRest V.seen V.moment V.may_leave (drives_of self.new) }
+        ensures uncounted { operations_of self.new ≡ operations_of self.old }
+        ensures later { LaterFaults (V.faults (drives_of self.old)) (V.faults (drives_of self.new))
+            (V.last_fault (drives_of self.old)) (V.last_fault (drives_of self.new)) }
+        ensures size { V.size (drives_of self.new) ≡ V.size (drives_of self.old) }
     {
         read_content(&mut self.drives, n, into)
     }
@@ -133,6 +168,12 @@ impl<V: Drives> Blocks for Pair<V> {
     ghost settled = { λ p n. IsSettled n (halves_seen V.seen p.drives) };
 
     ghost settled_always = { λ p n. IsSettledAlways V.may_leave p.drives (V.moment p.drives) n };
+
+    ghost rest = { λ p. IsAtRest V.seen V.moment V.may_leave p.drives };
+
+    ghost reads = { λ p q n result bytes. IsPairRead n (halves_seen V.seen p.drives)
+        (λ h. HasFailed (V.faults p.drives h) (V.faults q.drives h) (V.last_fault q.drives h))
+        result bytes };
 
     ghost faults = { λ p. V.faults p.drives };
 
@@ -190,7 +231,9 @@ impl<V: Drives> Blocks for Pair<V> {
         }
     }
 
-    ghost use Rattle.pair_store.specs.PairLaws.{content_whole, left_content, settled_content, settled_now};
+    ghost use Rattle.std.proofs.Common.{sym, ◌∙◌};
+    ghost use Rattle.pair_store.specs.PairLaws.{content_bytes, content_whole, left_content, rest_content, rest_settled};
+    ghost use Rattle.pair_store.specs.PairLaws.{settled_content, settled_now};
 
     ghost some = { λ p. V.some p.drives };
 
@@ -198,11 +241,31 @@ impl<V: Drives> Blocks for Pair<V> {
 
     ghost fault_past = { λ p. V.fault_past p.drives };
 
-    ghost whole = { λ p n body tells low is. content_whole n body (halves_seen V.seen p.drives) (V.size p.drives) (V.whole p.drives Half.A tells) (V.whole p.drives Half.B tells) low is };
+    ghost whole = { λ p n body tells low is. content_whole n body (halves_seen V.seen p.drives)
+        (V.size p.drives) (V.whole p.drives Half.A tells) (V.whole p.drives Half.B tells) low is };
 
-    ghost left_read = { λ p tells. left_content V.may_leave p.drives (V.moment p.drives) (halves_seen V.seen p.drives) (V.left_read p.drives Half.A tells) (V.left_read p.drives Half.B tells) };
+    ghost bytes = { λ p n body tells is. content_bytes n body (halves_seen V.seen p.drives)
+        (V.seen_bytes p.drives Half.A tells) (V.seen_bytes p.drives Half.B tells) is };
 
-    ghost settled_now = { λ p n tells settled. settled_now V.may_leave p.drives (V.moment p.drives) (halves_seen V.seen p.drives) (V.left_read p.drives Half.A tells) (V.left_read p.drives Half.B tells) n settled };
+    ghost left_bytes = { λ p t f n body left is. content_bytes n body left.0
+        (V.left_bytes p.drives Half.A t left.0.a left.1.0)
+        (V.left_bytes p.drives Half.B t left.0.b left.1.1) (sym (left.2 n) ∙ is) };
 
-    ghost settled_left = { λ p n f tells settled left. settled_content V.may_leave p.drives (V.moment p.drives) (halves_seen V.seen p.drives) (V.left_read p.drives Half.A tells) (V.left_read p.drives Half.B tells) n f settled left };
+    ghost left_read = { λ p tells. left_content V.may_leave p.drives (V.moment p.drives)
+        (halves_seen V.seen p.drives) (V.left_read p.drives Half.A tells)
+        (V.left_read p.drives Half.B tells) };
+
+    ghost rest_left = { λ p f _ rest left.
+        rest_content V.seen V.moment V.may_leave p.drives rest f left };
+
+    ghost rest_settled = { λ p n _ rest settled.
+        rest_settled V.seen V.moment V.may_leave p.drives rest n settled };
+
+    ghost settled_now = { λ p n tells settled. settled_now V.may_leave p.drives (V.moment p.drives)
+        (halves_seen V.seen p.drives) (V.left_read p.drives Half.A tells)
+        (V.left_read p.drives Half.B tells) n settled };
+
+    ghost settled_left = { λ p n f tells settled left. settled_content V.may_leave p.drives
+        (V.moment p.drives) (halves_seen V.seen p.drives) (V.left_read p.drives Half.A tells)
+        (V.left_read p.drives Half.B tells) n f settled left };
 }

@@ -4,6 +4,7 @@ use Rattle.drives.specs.Changes.{halves_seen}
 use Rattle.drives.proofs.Halves.{each_half}
 use Rattle.pair_store.specs.Stages.{HasBody, SameElsewhere}
 use Rattle.pair_store.proofs.BothWriting.{body_either, both_contents, both_elsewhere, first_contents, known_b, stage_either}
+use Rattle.pair_store.proofs.RestLaws.{rest_both}
 use Rattle.pair_store.proofs.both.write_both.Goals as goal
 
 pub returns-in-Err-clause-images : goal.returns-in-Err-clause-images
@@ -87,3 +88,10 @@ returns-in-Err-write_half-clause-either g c = λ tells settled.
     (subst (λ (w : List ℕ). SameElsewhere c.args.n w (g.V.Drives.seen new A)) (c.write_half.ensures.other_same tells) (c.write_half-2.ensures.range tells))
     (subst (λ (w : List ℕ). SameElsewhere c.args.n (g.V.Drives.seen old B) w) (sym (c.write_half-2.ensures.other_same tells)) (c.write_half.ensures.range tells))
     (subst (λ (w : List ℕ). HasBody c.args.n c.args.body.now w) (sym (c.write_half-2.ensures.other_same tells)) (c.in-Ok.ensures.written tells))
+
+pub returns-in-Ok-write_half-clause-rest : goal.returns-in-Ok-write_half-clause-rest
+returns-in-Ok-write_half-clause-rest g c = λ tells.
+    let new = c.write_half-2.new.drives in
+    rest_both g.V.Drives.seen g.V.Drives.moment g.V.Drives.may_leave c.args.n c.write_half.new.drives new
+    (g.met.V.Drives.left_read new A tells) (c.in-Ok.ensures.durable tells) (c.in-Ok-write_half.ensures.durable tells)
+    (c.write_half-2.ensures.other_same tells) c.write_half-2.ensures.changes

@@ -8,6 +8,7 @@ use Rattle.pair_store.specs.Blocks.{OldOrNew, SameOthers}
 use Rattle.pair_store.specs.Content.{ContentsLeft}
 use Rattle.pair_store.specs.Pages.{without_members}
 use Rattle.pair_store.specs.PairLaws.{settled_now}
+use Rattle.pair_store.proofs.MendLaws.{rest_kept}
 use Rattle.pair_store.proofs.PageWriting.{lifted, read_either, read_others, cleared, unrefused, write_either, write_others}
 use Rattle.pair_store.proofs.on_halves.PairBlocks.clear_members.Goals as goal
 
@@ -85,3 +86,15 @@ returns-in-Ok-clause-images_done g c = λ tells settled body is.
     let edited = c.in-Ok.ensures in
     on_ok_weaker c.write_content.result (λ done f image. done f image ∙ ap (λ (b : List ℕ). Some b) (edited.2.is ∙ ap (λ (b : List ℕ). without_members b) (sym same)))
     (c.write_content.ensures.images_done tells)
+
+pub returns-in_err-read_content-clause-rest_kept : goal.returns-in_err-read_content-clause-rest_kept
+returns-in_err-read_content-clause-rest_kept g c = λ tells alone rest.
+    rest_kept g.V.Drives.seen g.V.Drives.moment g.V.Drives.may_leave c.args.self.now.drives c.read_content.new.drives rest (c.read_content.ensures.seen tells) c.read_content.ensures.left
+
+pub returns-in-Err-clause-rest_kept : goal.returns-in-Err-clause-rest_kept
+returns-in-Err-clause-rest_kept g c = λ tells alone rest.
+    rest_kept g.V.Drives.seen g.V.Drives.moment g.V.Drives.may_leave c.args.self.now.drives c.read_content.new.drives rest (c.read_content.ensures.seen tells) c.read_content.ensures.left
+
+pub returns-in-Ok-clause-rest_kept : goal.returns-in-Ok-clause-rest_kept
+returns-in-Ok-clause-rest_kept g c = λ tells never.
+    absurd (unrefused c.write_content.result c.write_content.ensures.only never)

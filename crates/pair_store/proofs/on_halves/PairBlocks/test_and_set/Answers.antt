@@ -8,6 +8,7 @@ use Rattle.pair_store.specs.Blocks.{OldOrNew, SameOthers}
 use Rattle.pair_store.specs.Content.{ContentsLeft}
 use Rattle.pair_store.specs.Pages.{with_commit}
 use Rattle.pair_store.specs.PairLaws.{settled_now}
+use Rattle.pair_store.proofs.MendLaws.{rest_kept}
 use Rattle.pair_store.proofs.PageWriting.{fault_alone, lifted, read_either, read_others, tested_fault, write_either, write_others}
 use Rattle.pair_store.proofs.on_halves.PairBlocks.test_and_set.Goals as goal
 
@@ -123,3 +124,15 @@ returns-in_err-write_content-in-Ok-Set-clause-settles_only g c = λ tells k whic
       | inr alone ↦ absurd (fault_alone _ c.in_err-write_content-in-Ok-Set.ensures.only (rw (p.1, p.2) at alone))
     ] in
     (c.read_content.ensures.kept tells k).0 ((c.write_content.ensures.kept tells k ne).0 settled)
+
+pub returns-in_err-read_content-clause-rest_kept : goal.returns-in_err-read_content-clause-rest_kept
+returns-in_err-read_content-clause-rest_kept g c = λ tells alone rest.
+    rest_kept g.V.Drives.seen g.V.Drives.moment g.V.Drives.may_leave c.args.self.now.drives c.read_content.new.drives rest (c.read_content.ensures.seen tells) c.read_content.ensures.left
+
+pub returns-in-Ok-clause-rest_kept : goal.returns-in-Ok-clause-rest_kept
+returns-in-Ok-clause-rest_kept g c = λ tells alone rest.
+    rest_kept g.V.Drives.seen g.V.Drives.moment g.V.Drives.may_leave c.args.self.now.drives c.read_content.new.drives rest (c.read_content.ensures.seen tells) c.read_content.ensures.left
+
+pub returns-in-Err-clause-rest_kept : goal.returns-in-Err-clause-rest_kept
+returns-in-Err-clause-rest_kept g c = λ tells alone rest.
+    rest_kept g.V.Drives.seen g.V.Drives.moment g.V.Drives.may_leave c.args.self.now.drives c.read_content.new.drives rest (c.read_content.ensures.seen tells) c.read_content.ensures.left

@@ -13,3 +13,6 @@ returns-clause-kept_always g c = on_ok c.write_content.result c.write_content.en
 pub returns-clause-images : goal.returns-clause-images
 returns-clause-images g c = λ tells settled.
     lifted _ g.V.Drives.moment (ContentsLeft g.V.Drives.may_leave) _ _ (OldOrNew c.args.n c.args.body.now) (c.write_content.ensures.images tells settled)
+
+pub returns-clause-settles_only : goal.returns-clause-settles_only
+returns-clause-settles_only g c = λ tells k ne settled. (c.write_content.ensures.kept tells k ne).0 settled
