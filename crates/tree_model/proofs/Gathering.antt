@@ -5,7 +5,7 @@ use Rattle.std.specs.FinSet as set
 use Rattle.afs_base.specs.declared.kind.Kind.TheVariants.{Data}
 use Rattle.tree_model.specs.declared.step.Step.{Step}
 use Rattle.tree_model.specs.declared.step.Step.TheVariants.{ReadAt, ListAt, WriteAt, MakeAt, DropAt}
-use Rattle.tree_model.specs.Trees.{Tree, has, path_of, slots_below, after, tree_after}
+use Rattle.tree_model.specs.Trees.{Tree, has, path_of, numbers_below, after, tree_after}
 use Rattle.tree_model.specs.Accesses.{Place, place_cmp, is_among, slot_of, way_to, on_the_way, step_reads, step_writes, all_reads, all_writes, IsClash, KeepsVisible}
 use Rattle.tree_model.specs.Gathered.{are_distinct, with_place, with_places, lesser, least_with}
 use Rattle.tree_model.proofs.Paths.{told, never, both_true, or_told, or_left, or_right, not_true, same_test, false_if}
@@ -196,12 +196,12 @@ step_reads_same t xs ys (DropAt c) is = refl
 
 -- one more slot of a page
 pub slots_more : (init : List Place) (at : List ℕ) (n : ℕ)
-    → with_place (with_places init (map (λ s. slot_of (at, s)) (slots_below n))) (slot_of (at, n)) ≡ with_places init (map (λ s. slot_of (at, s)) (slots_below (n + 1)))
-unfolding slots_below
+    → with_place (with_places init (map (λ s. slot_of (at, s)) (numbers_below n))) (slot_of (at, n)) ≡ with_places init (map (λ s. slot_of (at, s)) (numbers_below (n + 1)))
+unfolding numbers_below
 slots_more init at n =
-    sym (with_places_append init (map (λ s. slot_of (at, s)) (slots_below n)) (slot_of (at, n) ∷ []))
-    ∙ ap (with_places init) (sym (map_push (λ s. slot_of (at, s)) (slots_below n) n))
-    ∙ ap (λ (m : ℕ). with_places init (map (λ s. slot_of (at, s)) (slots_below m))) (sym (add-one n))
+    sym (with_places_append init (map (λ s. slot_of (at, s)) (numbers_below n)) (slot_of (at, n) ∷ []))
+    ∙ ap (with_places init) (sym (map_push (λ s. slot_of (at, s)) (numbers_below n) n))
+    ∙ ap (λ (m : ℕ). with_places init (map (λ s. slot_of (at, s)) (numbers_below m))) (sym (add-one n))
 
 -- one more slot on the way
 pub way_more : (init : List Place) (t : Tree) (c : List ℕ × ℕ) (at : List ℕ) → path_of c ≡ at

@@ -7,31 +7,31 @@ use Rattle.afs_base.specs.Path.{path_cmp}
 use Rattle.tree_model.specs.Trees.{Tree, has}
 use Rattle.tree_model.proofs.Paths.{path_total, path_only}
 
-abbrev Entry : Type 0
+abbrev pub Entry : Type 0
 Entry = List ℕ × List ℕ
 
-abbrev Key : Type 0
+abbrev pub Key : Type 0
 Key = List ℕ × Unit {0}
 
 -- an entry without its data
-abbrev bare_of : Entry → Key
+abbrev pub bare_of : Entry → Key
 bare_of e = (e.0, tt)
 
-abbrev bare : List Entry → List Key
+abbrev pub bare : List Entry → List Key
 bare entries = map bare_of entries
 
-abbrev marked : Bool → Option (Unit {0})
+abbrev pub marked : Bool → Option (Unit {0})
 marked b = cond b (Some tt) None
 
-bare_below : (p : List ℕ) (es : List Entry) → below_all path_cmp p (bare es) ≡ below_all path_cmp p es
+pub bare_below : (p : List ℕ) (es : List Entry) → below_all path_cmp p (bare es) ≡ below_all path_cmp p es
 bare_below p [] = refl
 bare_below p (e ∷ es) = ap (λ b. is_lt (path_cmp p e.0) && b) (bare_below p es)
 
-bare_sorted : (es : List Entry) → is_sorted path_cmp (bare es) ≡ is_sorted path_cmp es
+pub bare_sorted : (es : List Entry) → is_sorted path_cmp (bare es) ≡ is_sorted path_cmp es
 bare_sorted [] = refl
 bare_sorted (e ∷ es) = λ i. bare_below e.0 es i && bare_sorted es i
 
-bare_found : (q : List ℕ) (es : List Entry) → find path_cmp q (bare es) ≡ marked (is_some (find path_cmp q es))
+pub bare_found : (q : List ℕ) (es : List Entry) → find path_cmp q (bare es) ≡ marked (is_some (find path_cmp q es))
 bare_found q [] = refl
 bare_found q (e ∷ es) = by (eq_by_cmp path_cmp q e.0) (bare_found q es)
   where
@@ -40,7 +40,7 @@ bare_found q (e ∷ es) = by (eq_by_cmp path_cmp q e.0) (bare_found q es)
     by true rest = refl
     by false rest = rest
 
-bare_keys : (es : List Entry) → map (λ (e : Key). e.0) (bare es) ≡ map (λ (e : Entry). e.0) es
+pub bare_keys : (es : List Entry) → map (λ (e : Key). e.0) (bare es) ≡ map (λ (e : Entry). e.0) es
 bare_keys [] = refl
 bare_keys (e ∷ es) = ap (λ (ps : List (List ℕ)). e.0 ∷ ps) (bare_keys es)
 

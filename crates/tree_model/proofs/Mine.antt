@@ -10,7 +10,7 @@ use Rattle.afs_base.specs.declared.kind.Kind.TheVariants.{Data, Slot}
 use Rattle.tree_model.specs.declared.step.Step.{Step}
 use Rattle.tree_model.specs.declared.step.Step.TheVariants.{ReadAt, ListAt, WriteAt, MakeAt, DropAt}
 use Rattle.tree_model.specs.declared.step.Reply.TheVariants.{Bytes, Slots, Done, Absent, Present}
-use Rattle.tree_model.specs.Trees.{Tree, has, IsTree, path_of, can_make, after, reply_of, tree_after, child_bits, slots_below, every_slot}
+use Rattle.tree_model.specs.Trees.{Tree, has, IsTree, path_of, can_make, after, reply_of, tree_after, child_bits, numbers_below, every_slot}
 use Rattle.tree_model.specs.Accesses.{Place, is_among, slot_of, slots_at, on_the_way, own_reads, step_reads, step_writes, all_writes}
 use Rattle.tree_model.specs.Merge.{AgreeAt, MovesAlike, Alike}
 use Rattle.tree_model.proofs.Paths.{told, both_true, same_self, prefix_above, prefix_append, prefix_trans, not_true}
@@ -46,7 +46,7 @@ at_still a b e t u q was = by (settled e q) was
     by (inr sets) was = inl (sets t u)
 
 -- the bits of the slots agree where the pages below them do
-bits_same : (t u : Tree) (p : List ℕ) (n : ℕ) → ((k : ℕ) → k < n → has u (p ++ k ∷ []) ≡ has t (p ++ k ∷ [])) → child_bits u p (slots_below n) ≡ child_bits t p (slots_below n)
+bits_same : (t u : Tree) (p : List ℕ) (n : ℕ) → ((k : ℕ) → k < n → has u (p ++ k ∷ []) ≡ has t (p ++ k ∷ [])) → child_bits u p (numbers_below n) ≡ child_bits t p (numbers_below n)
 bits_same t u p zero is = bits_none u p ∙ sym (bits_none t p)
 bits_same t u p (suc n) is =
     let rest = bits_same t u p n (λ k h. is k (omega arith)) in

@@ -10,7 +10,7 @@ use Rattle.afs_base.specs.Path.{path_cmp, is_prefix}
 use Rattle.afs_base.specs.Kind.{kind_place}
 use Rattle.afs_base.specs.declared.kind.Kind.{Kind}
 use Rattle.afs_base.specs.declared.kind.Kind.TheVariants.{Data, Slot}
-use Rattle.tree_model.specs.Trees.{Tree, has, path_of, slots_below}
+use Rattle.tree_model.specs.Trees.{Tree, has, path_of, numbers_below}
 use Rattle.tree_model.specs.Accesses.{Place, place_cmp, is_among, slot_of, way_to, on_the_way, slots_at}
 use Rattle.tree_model.proofs.Paths.{told, never, both_true, or_told, or_left, or_right, path_total, path_only}
 
@@ -161,24 +161,24 @@ pub map_push : {A B : Type 0} (f : A → B) (xs : List A) (x : A) → map f (xs 
 map_push f [] x = refl
 map_push f (y ∷ xs) x = ap (λ ys. f y ∷ ys) (map_push f xs x)
 
-below_told : (p : List ℕ) (n : ℕ) (x : Place) → is_among (map (λ s. slot_of (p, s)) (slots_below n)) x ≡ true → (k : ℕ) × (k < n) × (x ≡ slot_of (p, k))
-unfolding slots_below
+below_told : (p : List ℕ) (n : ℕ) (x : Place) → is_among (map (λ s. slot_of (p, s)) (numbers_below n)) x ≡ true → (k : ℕ) × (k < n) × (x ≡ slot_of (p, k))
+unfolding numbers_below
 below_told p zero x h = never h refl
 below_told p (suc n) x h =
-    elim (among_either (map (λ s. slot_of (p, s)) (slots_below n)) (slot_of (p, n) ∷ []) x (ap (λ ys. is_among ys x) (sym (map_push (λ s. slot_of (p, s)) (slots_below n) n)) ∙ h)) [
+    elim (among_either (map (λ s. slot_of (p, s)) (numbers_below n)) (slot_of (p, n) ∷ []) x (ap (λ ys. is_among ys x) (sym (map_push (λ s. slot_of (p, s)) (numbers_below n) n)) ∙ h)) [
       | inl e ↦ let rest = below_told p n x e in (rest.0, omega (arith, rest.1), rest.2)
       | inr e ↦ elim (among_told (slot_of (p, n)) [] x e) [ inl is ↦ (n, omega arith, is) | inr none ↦ not_among x none ]
     ]
 
-below_among : (p : List ℕ) (n k : ℕ) → k < n → is_among (map (λ s. slot_of (p, s)) (slots_below n)) (slot_of (p, k)) ≡ true
-unfolding slots_below
+below_among : (p : List ℕ) (n k : ℕ) → k < n → is_among (map (λ s. slot_of (p, s)) (numbers_below n)) (slot_of (p, k)) ≡ true
+unfolding numbers_below
 below_among p zero k h = absurd (omega arith)
-below_among p (suc n) k h = ap (λ ys. is_among ys (slot_of (p, k))) (map_push (λ s. slot_of (p, s)) (slots_below n) n) ∙ by (told (nat_eq k n)) (λ g. below_among p n k g)
+below_among p (suc n) k h = ap (λ ys. is_among ys (slot_of (p, k))) (map_push (λ s. slot_of (p, s)) (numbers_below n) n) ∙ by (told (nat_eq k n)) (λ g. below_among p n k g)
   where
-    by : (nat_eq k n ≡ true) ⊎ (nat_eq k n ≡ false) → (k < n → is_among (map (λ s. slot_of (p, s)) (slots_below n)) (slot_of (p, k)) ≡ true) → is_among (map (λ s. slot_of (p, s)) (slots_below n) ++ slot_of (p, n) ∷ []) (slot_of (p, k)) ≡ true
-    by (inl e) rest = among_right (map (λ s. slot_of (p, s)) (slots_below n)) (slot_of (p, n) ∷ []) (slot_of (p, k))
+    by : (nat_eq k n ≡ true) ⊎ (nat_eq k n ≡ false) → (k < n → is_among (map (λ s. slot_of (p, s)) (numbers_below n)) (slot_of (p, k)) ≡ true) → is_among (map (λ s. slot_of (p, s)) (numbers_below n) ++ slot_of (p, n) ∷ []) (slot_of (p, k)) ≡ true
+    by (inl e) rest = among_right (map (λ s. slot_of (p, s)) (numbers_below n)) (slot_of (p, n) ∷ []) (slot_of (p, k))
         (ap (λ m. is_among (slot_of (p, m) ∷ []) (slot_of (p, k))) (sym (eqb-true k n e)) ∙ among_first (slot_of (p, k)) [])
-    by (inr e) rest = among_left (map (λ s. slot_of (p, s)) (slots_below n)) (slot_of (p, n) ∷ []) (slot_of (p, k))
+    by (inr e) rest = among_left (map (λ s. slot_of (p, s)) (numbers_below n)) (slot_of (p, n) ∷ []) (slot_of (p, k))
         (rest (omega (arith, eqb-false k n e)))
 
 -- a slot of a page is one of its sixteen

@@ -64,9 +64,9 @@ tree_without t p tree below = record {
       ]) q_there;
 }
 
-pub kept_insert : (t : Tree) (p bytes : List ℕ) → IsKept t → length p ≤ 7 → are_slots p ≡ true
+pub kept_insert : (t : Tree) (p bytes : List ℕ) → IsKept t → length p ≤ 7 → are_slots p ≡ true → length bytes ≤ 800
     → ((q : List ℕ) → is_prefix q p ≡ true → (q ≡ p) ⊎ (has t q ≡ true)) → IsKept (map.insert t p bytes)
-kept_insert t p bytes kept short slots above = record {
+kept_insert t p bytes kept short slots few above = record {
   tree = tree_insert t p bytes kept.tree above;
   short = λ q there. elim (had t p bytes q there) [
     | inl e ↦ let F : List ℕ → Type 0 = λ y. length y ≤ 7 in subst F (sym e) short
@@ -76,14 +76,27 @@ kept_insert t p bytes kept short slots above = record {
     | inl e ↦ ap are_slots e ∙ slots
     | inr e ↦ kept.slots q e
   ];
+  bytes = λ q found at. by q found (told (same q p)) (sym (get_insert t p bytes q) ∙ at);
 }
+  where
+    by : (q found : List ℕ) → (same q p ≡ true) ⊎ (same q p ≡ false) → cond (same q p) (Some bytes) (map.get t q) ≡ Some found → length found ≤ 800
+    by q found (inl e) at =
+        let is : Some bytes ≡ Some found = sym (ap (λ b. cond b (Some bytes) (map.get t q)) e) ∙ at in
+        let same_bytes : bytes ≡ found = cc in
+        let F : List ℕ → Type 0 = λ xs. length xs ≤ 800 in subst F same_bytes few
+    by q found (inr e) at = kept.bytes q found (sym (ap (λ b. cond b (Some bytes) (map.get t q)) e) ∙ at)
 
 pub kept_without : (t : Tree) (p : List ℕ) → IsKept t → is_prefix p [] ≡ false → IsKept (without t p)
 kept_without t p kept below = record {
   tree = tree_without t p kept.tree below;
   short = λ q there. kept.short q (second_so _ _ (sym (has_without t p q) ∙ there));
   slots = λ q there. kept.slots q (second_so _ _ (sym (has_without t p q) ∙ there));
+  bytes = λ q found at. by q found (not (is_prefix p q)) (sym (get_without t p q) ∙ at);
 }
+  where
+    by : (q found : List ℕ) (b : Bool) → cond b (map.get t q) None ≡ Some found → length found ≤ 800
+    by q found true at = kept.bytes q found at
+    by q found false at = absurd (cc at)
 
 -- the pages above a page that is there are there
 pub above_there : (t : Tree) (p : List ℕ) → IsTree t → has t p ≡ true → (q : List ℕ) → is_prefix q p ≡ true → (q ≡ p) ⊎ (has t q ≡ true)
@@ -94,12 +107,12 @@ pub above_child : (t : Tree) (c : List ℕ × ℕ) → IsTree t → has t c.0 �
 above_child t c tree there q h = elim (prefix_child q c.0 c.1 h) [ inl e ↦ inl e | inr e ↦ inr (tree.closed c.0 q e there) ]
 
 -- new data at a page that is there
-pub kept_put : (t : Tree) (p bytes : List ℕ) → IsKept t → has t p ≡ true → IsKept (map.insert t p bytes)
-kept_put t p bytes kept there = kept_insert t p bytes kept (kept.short p there) (kept.slots p there) (above_there t p kept.tree there)
+pub kept_put : (t : Tree) (p bytes : List ℕ) → IsKept t → has t p ≡ true → length bytes ≤ 800 → IsKept (map.insert t p bytes)
+kept_put t p bytes kept there few = kept_insert t p bytes kept (kept.short p there) (kept.slots p there) few (above_there t p kept.tree there)
 
 -- a new page below one that is there
-pub kept_make : (t : Tree) (c : List ℕ × ℕ) (bytes : List ℕ) → IsKept t → has t c.0 ≡ true → length (path_of c) ≤ 7 → are_slots (path_of c) ≡ true → IsKept (map.insert t (path_of c) bytes)
-kept_make t c bytes kept there short slots = kept_insert t (path_of c) bytes kept short slots (above_child t c kept.tree there)
+pub kept_make : (t : Tree) (c : List ℕ × ℕ) → IsKept t → has t c.0 ≡ true → length (path_of c) ≤ 7 → are_slots (path_of c) ≡ true → IsKept (map.insert t (path_of c) [])
+kept_make t c kept there short slots = kept_insert t (path_of c) [] kept short slots (lit≤ tt) (above_child t c kept.tree there)
 
 -- a page other than `/` goes, with all below it
 pub kept_drop : (t : Tree) (c : List ℕ × ℕ) → IsKept t → IsKept (without t (path_of c))
@@ -159,8 +172,15 @@ kept_single = record {
   };
   short = λ p there. let F : List ℕ → Type 0 = λ y. length y ≤ 7 in subst F (sym (same_is p [] (sym (root_at p) ∙ there))) (lit≤ tt);
   slots = λ p there. ap are_slots (same_is p [] (sym (root_at p) ∙ there));
+  bytes = λ p found at. empty p found (same p []) (sym (get_insert map.empty [] [] p) ∙ at);
 }
   where
     by : (q : List ℕ) → is_prefix q [] ≡ true → same q [] ≡ true
     by [] h = refl
     by (s ∷ q) h = h
+
+    empty : (p found : List ℕ) (b : Bool) → cond b (Some []) (map.get (map.empty {R = path_cmp}) p) ≡ Some found → length found ≤ 800
+    empty p found true at =
+        let is : [] ≡ found = cc in
+        let F : List ℕ → Type 0 = λ xs. length xs ≤ 800 in subst F is (lit≤ tt)
+    empty p found false at = absurd (cc (map.get-empty path_cmp p, at))

@@ -52,6 +52,14 @@ target (WriteAt p bytes) = p
 target (MakeAt c) = path_of c
 target (DropAt c) = path_of c
 
+-- the last page on a step's way that the step looks into: a make and a drop do not look into their own page
+abbrev pub end_of : Step → List ℕ
+end_of (ReadAt p) = p
+end_of (ListAt p) = p
+end_of (WriteAt p bytes) = p
+end_of (MakeAt c) = c.0
+end_of (DropAt c) = c.0
+
 -- what a step reads besides the way to its path; `done` is what was written before it
 abbrev pub own_reads : Tree → List Place → Step → List Place
 own_reads t done (ReadAt p) = if has t p && not (is_among done (p, Data)) then (p, Data) ∷ [] else []
@@ -112,3 +120,12 @@ touches places p = list_any (λ x. is_prefix p x.0) places
 -- the paths, in order, of the pages at or below which an update wrote and which are there after it
 abbrev pub fresh_of : Tree → List Step → List (List ℕ)
 fresh_of t steps = map.keys (map.retain_keys (tree_after t steps) (touches (all_writes t steps)))
+
+-- the paths that are written: the fresh ones, or `/` alone where none is fresh
+abbrev pub written_paths : List (List ℕ) → List (List ℕ)
+written_paths [] = [] ∷ []
+written_paths (p ∷ paths) = p ∷ paths
+
+-- the fresh paths of the top file of an update that has members: `/` is fresh there though nothing was written
+abbrev pub fresh_as_top : Tree → List Step → List (List ℕ)
+fresh_as_top t steps = written_paths (fresh_of t steps)

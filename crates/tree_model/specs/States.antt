@@ -1,8 +1,7 @@
-use Rattle.std.specs.Prelude.{◌≡◌, ℕ, zero, suc, ◌+◌, ◌-◌, ◌*◌, Bool, List, [], ◌∷◌, ◌++◌, map, length, take, drop, nat_eq, nat_lt, if◌then◌else◌, Option, Some, None, option_map, count_by, slice_get, ◌⊎◌, refl}
+use Rattle.std.specs.Prelude.{◌≡◌, ℕ, ◌+◌, ◌-◌, ◌*◌, Bool, List, map, length, take, drop, nat_eq, nat_lt, if◌then◌else◌, Option, Some, None, option_map, count_by, slice_get, ◌⊎◌}
 use Rattle.std.specs.List.{list_any}
-use Rattle.std.specs.Coded.{Coded, code_by, coded×, coded_list, coded_ℕ}
 use Rattle.std.specs.FinMap as map
-use Rattle.tree_model.specs.Trees.{Tree, IsTree}
+use Rattle.tree_model.specs.Trees.{Tree, IsKept, numbers_below}
 
 -- The state that a store keeps, as its users know it. No block number is in it.
 
@@ -24,26 +23,6 @@ pub record State : Type 0 where
   pub blocks : ℕ
   pub key : ℕ
   pub files : List File
-
--- ---- their codes
-
-abbrev pub tree_code : Coded Tree
-tree_code = map.code (coded_list coded_ℕ) (coded_list coded_ℕ)
-
-abbrev pub version_code : Coded Version
-version_code =
-    code_by (ℕ × (Tree × List (List ℕ))) (coded× coded_ℕ (coded× tree_code (coded_list (coded_list coded_ℕ))))
-    (λ v. (v.serial, (v.tree, v.fresh))) (λ p. record { serial = p.0; tree = p.1.0; fresh = p.1.1 }) (λ _. refl)
-
-abbrev pub file_code : Coded File
-file_code =
-    code_by (ℕ × (List ℕ × List Version)) (coded× coded_ℕ (coded× (coded_list coded_ℕ) (coded_list version_code)))
-    (λ f. (f.generation, (f.secret, f.versions))) (λ p. record { generation = p.0; secret = p.1.0; versions = p.1.1 }) (λ _. refl)
-
-abbrev pub state_code : Coded State
-state_code =
-    code_by (ℕ × (ℕ × (ℕ × List File))) (coded× coded_ℕ (coded× coded_ℕ (coded× coded_ℕ (coded_list file_code))))
-    (λ s. (s.format, (s.blocks, (s.key, s.files)))) (λ p. record { format = p.0; blocks = p.1.0; key = p.1.1.0; files = p.1.1.1 }) (λ _. refl)
 
 -- ---- words
 
@@ -75,11 +54,6 @@ last_serial file = option_map (λ v. v.serial) (last_version file)
 abbrev pub file_of : State → ℕ → Option File
 file_of state object = if nat_eq object 0 then None else slice_get state.files (object - 1)
 
--- the numbers below n, ascending
-unfoldable pub numbers_below : ℕ → List ℕ
-numbers_below zero = []
-numbers_below (suc n) = numbers_below n ++ n ∷ []
-
 -- the sixty-three entries that one part of a table of format 2 has
 abbrev pub group_of : List File → ℕ → List File
 group_of files j = take 63 (drop (63 * j) files)
@@ -99,7 +73,7 @@ IsRising serials = (k m n : ℕ) → slice_get serials k ≡ Some m → slice_ge
 -- a file's serials rise by one, its versions have trees, and the first one has all its paths fresh
 pub record IsFile (file : File) : Type 0 where
   pub rising : IsRising (serials_of file)
-  pub trees : (k : ℕ) (v : Version) → slice_get file.versions k ≡ Some v → IsTree v.tree
+  pub trees : (k : ℕ) (v : Version) → slice_get file.versions k ≡ Some v → IsKept v.tree
   pub first : (v : Version) → slice_get file.versions 0 ≡ Some v → v.fresh ≡ map.keys v.tree
 
 -- a table of one of the two formats, with as many entries as it has, each of which is a file

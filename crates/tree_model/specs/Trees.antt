@@ -1,4 +1,4 @@
-use Rattle.std.specs.Prelude.{◌≡◌, ℕ, zero, suc, ◌^◌, ◌≤◌, Bool, true, not, ◌&&◌, List, [], ◌∷◌, ◌++◌, length, if◌then◌else◌, sum_by}
+use Rattle.std.specs.Prelude.{◌≡◌, ℕ, zero, suc, ◌^◌, ◌≤◌, Bool, true, not, ◌&&◌, List, [], ◌∷◌, ◌++◌, length, if◌then◌else◌, Some, sum_by}
 use Rattle.std.specs.Option.{option_map_or}
 use Rattle.std.specs.FinMap as map
 use Rattle.afs_base.specs.Path.{path_cmp, is_prefix, are_slots}
@@ -23,24 +23,25 @@ pub record IsTree (t : Tree) : Type 0 where
   pub root : has t [] ≡ true
   pub closed : (p q : List ℕ) → is_prefix q p ≡ true → has t p ≡ true → has t q ≡ true
 
--- what the type of a tree keeps besides: no path has more than seven slots, and each slot is below 16
+-- the tree of a version: besides, no path has more than seven slots, each slot is below 16, and no page has more than 800 bytes
 pub record IsKept (t : Tree) : Type 0 where
   pub tree : IsTree t
   pub short : (p : List ℕ) → has t p ≡ true → length p ≤ 7
   pub slots : (p : List ℕ) → has t p ≡ true → are_slots p ≡ true
+  pub bytes : (p bytes : List ℕ) → map.get t p ≡ Some bytes → length bytes ≤ 800
 
 -- the tree of the page `/` alone, with no data
 abbrev pub single : Tree
 single = map.insert map.empty [] []
 
--- the slots below n, ascending
-unfoldable pub slots_below : ℕ → List ℕ
-slots_below zero = []
-slots_below (suc n) = slots_below n ++ n ∷ []
+-- the numbers below n, ascending
+unfoldable pub numbers_below : ℕ → List ℕ
+numbers_below zero = []
+numbers_below (suc n) = numbers_below n ++ n ∷ []
 
 -- the slots of a page, ascending
 abbrev pub every_slot : List ℕ
-every_slot = slots_below 16
+every_slot = numbers_below 16
 
 -- the bit of a slot that has a page below it, which is 2 to the slot
 abbrev pub bit_of : Tree → List ℕ → ℕ → ℕ

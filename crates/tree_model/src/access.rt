@@ -4,13 +4,12 @@ ghost use Rattle.tree_model.specs.Trees.{has};
 ghost use Rattle.tree_model.specs.Accesses.{IsClash, KeepsVisible, own_reads, reads_of, step_reads, step_writes, writes_of};
 ghost use Rattle.tree_model.specs.Gathered.{are_distinct, least_with, lesser, with_places};
 
-use crate::memory::Memory;
 use crate::places::{
     Place, contains, insert, insert_slots, insert_way, keep_there, named_slot, place_order,
 };
 use crate::step::Step;
 use crate::tree::Tree;
-use afs_base::{Kind, Path};
+use afs_base::{Kind, Memory, Path};
 use std::alloc::Global;
 use std::marker::Model;
 
@@ -29,7 +28,8 @@ impl Model for Access {
 
     ghost view = { λ a. record { reads = a.reads.items; writes = a.writes.items } };
 
-    ghost invariant = { λ a. (are_distinct a.reads.items ≡ true) × (are_distinct a.writes.items ≡ true) };
+    ghost invariant = { λ a. (are_distinct a.reads.items ≡ true)
+        × (are_distinct a.writes.items ≡ true) };
 }
 
 impl Access {
@@ -53,7 +53,8 @@ impl Access {
     /// another update can see.
     pub fn visible(&self, alloc: Global, after: &Tree) -> Result<Access, Memory>
         ensures reads { IfOk result (λ a. a.reads ≡ []) }
-        ensures writes { IfOk result (λ a. a.writes ≡ filter (λ x. has after.now x.0) self.now.writes) }
+        ensures writes { IfOk result
+            (λ a. a.writes ≡ filter (λ x. has after.now x.0) self.now.writes) }
         ensures visible { IfOk result (λ a. KeepsVisible self.now.writes after.now a.writes) }
     {
         let mut writes = Vec::from_slice(alloc, &self.writes)?;
@@ -118,7 +119,8 @@ fn add_reads(
     writes: &[Place],
     step: &Step,
 ) -> Result<(), Memory>
-    ensures { OnOk result (reads.new.items ≡ with_places reads.old.items (step_reads tree.now writes.now step.now)) }
+    ensures { OnOk result
+        (reads.new.items ≡ with_places reads.old.items (step_reads tree.now writes.now step.now)) }
 {
     insert_way(reads, tree, &step.target())?;
     add_own_reads(reads, tree, writes, step)
@@ -131,7 +133,8 @@ fn add_own_reads(
     writes: &[Place],
     step: &Step,
 ) -> Result<(), Memory>
-    ensures { OnOk result (reads.new.items ≡ with_places reads.old.items (own_reads tree.now writes.now step.now)) }
+    ensures { OnOk result
+        (reads.new.items ≡ with_places reads.old.items (own_reads tree.now writes.now step.now)) }
 {
     match step {
         Step::ReadAt { at } if tree.has(at) && !contains(writes, &(*at, Kind::Data)) => insert(
@@ -145,7 +148,8 @@ fn add_own_reads(
 }
 
 fn add_writes(writes: &mut Vec<Place>, tree: &Tree, step: &Step) -> Result<(), Memory>
-    ensures { OnOk result (writes.new.items ≡ with_places writes.old.items (step_writes tree.now step.now)) }
+    ensures { OnOk result
+        (writes.new.items ≡ with_places writes.old.items (step_writes tree.now step.now)) }
 {
     match step {
         Step::WriteAt { at, .. } if tree.has(at) => insert(writes, (*at, Kind::Data)),

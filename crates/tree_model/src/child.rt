@@ -7,7 +7,7 @@ use std::marker::Model;
 
 /// A page other than `/`, named by the path of the page above it and its slot there.
 /// Contracts see the pair of both.
-#[derive(Clone, Copy, Debug)]
+#[derive(Clone, Copy, Debug, PartialEq, Eq)]
 pub struct Child {
     above: Path,
     last: Slot,
@@ -22,7 +22,8 @@ impl Model for Child {
 
     ghost view = { λ c. (c.above, c.last) };
 
-    ghost invariant = { λ c. (length c.above < 7) × (are_slots (path_of (c.above, c.last)) ≡ true) };
+    ghost invariant = { λ c.
+        (length c.above < 7) × (are_slots (path_of (c.above, c.last)) ≡ true) };
 
     ghost inverse = { λ c. record { above = c.0; last = c.1 } };
 }

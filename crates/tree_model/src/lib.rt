@@ -3,15 +3,14 @@
 
 mod access;
 mod child;
-mod memory;
 mod merge;
 mod places;
 mod step;
 mod tree;
 
 pub use access::{Access, accesses, first_clash};
+pub use afs_base::Memory;
 pub use child::Child;
-pub use memory::Memory;
 pub use merge::merge_law;
 pub use step::{Reply, Step};
 pub use tree::Tree;

@@ -4,9 +4,8 @@ ghost use Rattle.tree_model.specs.Accesses.{is_among, on_the_way, place_cmp, slo
 ghost use Rattle.tree_model.specs.Gathered.{with_place, with_places};
 
 use crate::child::Child;
-use crate::memory::Memory;
 use crate::tree::Tree;
-use afs_base::{Kind, Path, Slot};
+use afs_base::{Kind, Memory, Path, Slot};
 use std::cmp::Ordering;
 
 /// What an access touches: the data or a slot of the page at a path.
@@ -38,7 +37,8 @@ pub fn insert(places: &mut Vec<Place>, place: Place) -> Result<(), Memory>
 
 /// Adds the slots that lead to a path, of the pages above it that are there.
 pub fn insert_way(places: &mut Vec<Place>, tree: &Tree, at: &Path) -> Result<(), Memory>
-    ensures { OnOk result (places.new.items ≡ with_places places.old.items (on_the_way tree.now at.now)) }
+    ensures { OnOk result
+        (places.new.items ≡ with_places places.old.items (on_the_way tree.now at.now)) }
 {
     match Child::of(at) {
         Some(child) => {
@@ -51,7 +51,8 @@ pub fn insert_way(places: &mut Vec<Place>, tree: &Tree, at: &Path) -> Result<(),
 
 /// Adds the slot that names a child, where the page above it is there.
 fn insert_step_down(places: &mut Vec<Place>, tree: &Tree, child: &Child) -> Result<(), Memory>
-    ensures { OnOk result (places.new.items ≡ with_places places.old.items (if has tree.now child.now.0 then slot_of child.now ∷ [] else [])) }
+    ensures { OnOk result (places.new.items ≡ with_places places.old.items
+        (if has tree.now child.now.0 then slot_of child.now ∷ [] else [])) }
 {
     if tree.has(&child.above()) {
         insert(places, named_slot(child))

@@ -4,7 +4,7 @@ use crate::child::Child;
 use afs_base::{PageData, Path};
 
 /// One step of an update on a tree. A make and a drop name a page other than `/`.
-#[derive(Clone, Copy, Debug)]
+#[derive(Clone, Copy, Debug, PartialEq, Eq)]
 pub enum Step {
     /// Asks for the data of a page.
     ReadAt { at: Path },
@@ -19,7 +19,7 @@ pub enum Step {
 }
 
 impl Step {
-    ghost use Rattle.tree_model.specs.Accesses.{target};
+    ghost use Rattle.tree_model.specs.Accesses.{end_of, target};
 
     /// The path that the step names.
     pub fn target(&self) -> Path
@@ -28,6 +28,16 @@ impl Step {
         match self {
             Step::ReadAt { at } | Step::ListAt { at } | Step::WriteAt { at, .. } => *at,
             Step::MakeAt { at } | Step::DropAt { at } => at.path(),
+        }
+    }
+
+    /// The last page that the step looks into on its way: a make and a drop do not look into their own page.
+    pub fn end(&self) -> Path
+        ensures { result ≡ end_of self.now }
+    {
+        match self {
+            Step::ReadAt { at } | Step::ListAt { at } | Step::WriteAt { at, .. } => *at,
+            Step::MakeAt { at } | Step::DropAt { at } => at.above(),
         }
     }
 }

@@ -6,9 +6,8 @@ ghost use Rattle.tree_model.specs.Entries.{is_at};
 ghost use Rattle.tree_model.specs.Trees.{after, bit_of, can_make, child_bits, every_slot, has, IsKept, IsMake, reply_of, single, without};
 
 use crate::child::Child;
-use crate::memory::Memory;
 use crate::step::{Reply, Step};
-use afs_base::{PageData, Path, Slot};
+use afs_base::{Memory, PageData, Path, Slot};
 use std::alloc::Global;
 use std::marker::Model;
 
@@ -157,6 +156,8 @@ impl Tree {
         ensures reply { result ≡ reply_of self.old (WriteAt at.now bytes.now) }
         ensures after { self.new ≡ after self.old (WriteAt at.now bytes.now) }
     {
+        // Data that is looked at is known to have at most 800 bytes.
+        let _data = bytes.bytes();
         match place_of(&self.pages, at) {
             Some(i) => {
                 self.pages[i] = (*at, *bytes);

@@ -1,11 +1,11 @@
 use Rattle.std.proofs.Common.{refl, ◌∙◌}
-use Rattle.tree_model.specs.Trees.{slots_below}
+use Rattle.tree_model.specs.Trees.{numbers_below}
 use Rattle.tree_model.specs.Gathered.{with_place}
 use Rattle.tree_model.proofs.Gathering.{slots_more}
 use Rattle.tree_model.proofs.places.insert_slots.Goals as goal
 
 pub loop-slot-init : goal.loop-slot-init
-unfolding slots_below
+unfolding numbers_below
 loop-slot-init c = refl
 
 pub loop-slot-preserved : goal.loop-slot-preserved

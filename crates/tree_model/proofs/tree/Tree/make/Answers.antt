@@ -27,7 +27,7 @@ invariant_of-self-2 c =
     let F : Tree → Type 0 = IsKept in
     let S : List ℕ → Type 0 = λ p. length p ≤ 7 in
     subst F (sym (made c))
-    (kept_make c.args.self.now c.args.at.now [] c.has.ensures.kept (above c)
+    (kept_make c.args.self.now c.args.at.now c.has.ensures.kept (above c)
     (subst S c.path-path.ensures.path c.path-path.ensures.short)
     (ap are_slots (sym c.path-path.ensures.path) ∙ c.path-path.ensures.slots))
 

@@ -1,5 +1,5 @@
 use Rattle.std.proofs.Common.{◌+◌, ap, sym, ◌∙◌, add-one, arith}
-use Rattle.tree_model.specs.Trees.{child_bits, slots_below}
+use Rattle.tree_model.specs.Trees.{child_bits, numbers_below}
 use Rattle.tree_model.proofs.Bits.{bits_none, bits_more, bits_fit}
 use Rattle.tree_model.proofs.tree.Tree.slots_below.Goals as goal
 
@@ -15,4 +15,4 @@ loop-slot-preserved c =
     let p = c.args.at.now in
     (λ i. c.loop-slot.invariant i + c.bit-bits.ensures i)
     ∙ sym (bits_more t p c.loop-slot.slot)
-    ∙ ap (λ n. child_bits t p (slots_below n)) (sym (add-one c.loop-slot.slot))
+    ∙ ap (λ n. child_bits t p (numbers_below n)) (sym (add-one c.loop-slot.slot))

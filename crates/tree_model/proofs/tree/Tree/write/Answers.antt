@@ -1,4 +1,4 @@
-use Rattle.std.proofs.Common.{◌≡◌, Bool, true, false, cond, List, [], Some, is_some, ap, subst, sym, ◌∙◌, position}
+use Rattle.std.proofs.Common.{◌≡◌, Bool, true, false, cond, List, [], Some, is_some, ◌≤◌, length, arith, ap, subst, sym, ◌∙◌, position}
 use Rattle.std.specs.FinMap as map
 use Rattle.afs_base.specs.Path.{path_cmp}
 use Rattle.tree_model.specs.declared.step.Reply.TheVariants.{Done, Absent}
@@ -28,8 +28,9 @@ pub invariant_of-self : goal.invariant_of-self
 invariant_of-self c =
     let F : Tree → Type 0 = IsKept in
     let pages = c.self.inside.pages.items in
+    let few : length c.args.bytes.now ≤ 800 = omega (arith, ap length c.bytes-data.ensures.value) in
     subst F (sym (put_at pages c.args.at.now c.args.bytes.now c.in-Some.i ([], []) (place c)))
-    (kept_put (map.from_entries pages) c.args.at.now c.args.bytes.now c.self.invariant (there c))
+    (kept_put (map.from_entries pages) c.args.at.now c.args.bytes.now c.self.invariant (there c) few)
 
 pub returns-in-Some-clause-reply : goal.returns-in-Some-clause-reply
 returns-in-Some-clause-reply c = ap (λ (b : Bool). cond b Done Absent) (sym (was_there c))
