@@ -1,18 +1,17 @@
 -- Bits of masks, slots of pages, blocks at paths, and what is live.
-use Rattle.std.proofs.Common.{◌≡◌, ℕ, zero, suc, ◌^◌, ◌<◌, max, Bool, true, false, not, ◌&&◌, ◌||◌, cond, nat_eq, nat_lt, List, [], ◌∷◌, ◌++◌, replicate, ◌⊎◌, inl, inr, refl, sym, ap, subst, ◌∙◌, Option, Some, None, option_map, is_some, arith, append_assoc, append-nil, eqb-true, eq-eqb}
+use Rattle.std.proofs.Common.{◌≡◌, ℕ, zero, suc, ◌^◌, ◌<◌, max, Bool, true, false, ◌&&◌, ◌||◌, cond, nat_eq, List, [], ◌∷◌, ◌++◌, replicate, inl, inr, refl, sym, ap, ◌∙◌, Option, Some, None, arith, append_assoc, eqb-true}
 use Rattle.std.specs.Option.{option_and_then, option_map_or}
 use Rattle.std.specs.List.{slice_get, slice_set}
 use Rattle.std.specs.Int.{bit_at}
 use Rattle.std.specs.Int.RustNames.{bit_or}
-use Rattle.std.specs.Cmp.{first_so, second_so}
 use Rattle.std.proofs.lemmas.Bool.{eqb-false}
 use Rattle.std.proofs.lemmas.Nat.Bits.{bit_at-lt, bit_at_or, bit_at-zero, bit_at-pow_same, bit_at-pow_other, bit_at_ones}
 use Rattle.afs_base.specs.Path.{is_prefix}
-use Rattle.tree_model.proofs.Paths.{told, never, false_if}
-use Rattle.page_codec.specs.Values.{ReferenceValue, PageValue}
+use Rattle.tree_model.proofs.Paths.{told, never}
+use Rattle.page_codec.specs.Values.{ReferenceValue}
 use Rattle.page_codec.specs.Blank.{empty_reference, empty_slots}
-use Rattle.draft_model.specs.Places.{Store, has_bit, slot_block, block_at}
-use Rattle.draft_model.specs.Views.{Copied, View, PageCopy, Copies, live, LiveAt}
+use Rattle.page_places.specs.Places.{has_bit, slot_block}
+use Rattle.draft_model.specs.Views.{PageCopy, Copies, live, LiveAt}
 use Rattle.draft_model.specs.Steps.{way_bit, blank}
 
 -- ---- tests
@@ -100,28 +99,6 @@ blank_slot level s = by 16 s
 
 -- ---- blocks at paths
 
-pub block_at_append : (store : Store) (b : ℕ) (p r : List ℕ) → block_at store b (p ++ r) ≡ option_and_then (λ c. block_at store c r) (block_at store b p)
-block_at_append store b [] r = refl
-block_at_append store b (s ∷ p) r = by (λ x. block_at_append store x p r) (option_and_then (λ (page : PageValue). slot_block page s) (store b))
-  where
-    by : ((x : ℕ) → block_at store x (p ++ r) ≡ option_and_then (λ c. block_at store c r) (block_at store x p))
-        → (o : Option ℕ) → option_and_then (λ c. block_at store c (p ++ r)) o ≡ option_and_then (λ c. block_at store c r) (option_and_then (λ c. block_at store c p) o)
-    by rest None = refl
-    by rest (Some x) = rest x
-
--- the child's block is the one that its slot names
-pub block_at_child : (store : Store) (root : ℕ) (p : List ℕ) (b s : ℕ) (page : PageValue) → block_at store root p ≡ Some b → store b ≡ Some page
-    → block_at store root (p ++ s ∷ []) ≡ slot_block page s
-block_at_child store root p b s page at holds =
-    block_at_append store root p (s ∷ [])
-    ∙ ap (option_and_then (λ c. block_at store c (s ∷ []))) at
-    ∙ ap (λ o. option_and_then (λ (c : ℕ). Some c) (option_and_then (λ (page : PageValue). slot_block page s) o)) holds
-    ∙ by (slot_block page s)
-  where
-    by : (o : Option ℕ) → option_and_then (λ (c : ℕ). Some c) o ≡ o
-    by None = refl
-    by (Some x) = refl
-
 -- ---- what is live
 
 pub live_of : (h : Copies) (p : List ℕ) (c : PageCopy) → LiveAt h p c → live h p ≡ true
@@ -136,9 +113,6 @@ at_of h p here = by (h p) refl here
 
 pub uncopied_dead : (h : Copies) (p : List ℕ) → h p ≡ None → live h p ≡ false
 uncopied_dead h p e = ap (λ o. option_map_or (λ (x : PageCopy). x.live) o false) e
-
-pub at_root : (q : List ℕ) → q ++ [] ≡ q
-at_root q = append-nil q
 
 -- a path and one more slot, in two ways
 pub push : (p : List ℕ) (s : ℕ) (l : List ℕ) → (p ++ s ∷ []) ++ l ≡ p ++ s ∷ l

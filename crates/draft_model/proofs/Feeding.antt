@@ -1,22 +1,22 @@
 -- A wanted page that is copied, and the page `/` with which a draft begins.
-use Rattle.std.proofs.Common.{◌≡◌, ℕ, Bool, true, false, not, ◌&&◌, ◌||◌, cond, List, [], ◌∷◌, ◌++◌, length, ◌⊎◌, inl, inr, refl, sym, ap, subst, ◌∙◌, Option, Some, None, option_map, is_some, true≢false}
+use Rattle.std.proofs.Common.{◌≡◌, ℕ, Bool, true, false, cond, List, [], ◌∷◌, ◌++◌, length, ◌⊎◌, inl, inr, refl, sym, ap, subst, ◌∙◌, Option, Some, None, option_map, is_some, true≢false}
 use Rattle.std.specs.Option.{option_map_or, option_and_then}
 use Rattle.std.specs.FinMap as map
 use Rattle.afs_base.specs.Path.{is_prefix, are_slots}
 use Rattle.afs_base.specs.declared.kind.Kind.{Kind}
 use Rattle.afs_base.specs.declared.kind.Kind.TheVariants.{Data, Slot}
-use Rattle.tree_model.specs.declared.step.Step.{Step}
 use Rattle.tree_model.specs.Trees.{Tree, has, IsTree, tree_after}
-use Rattle.tree_model.specs.Accesses.{Place, is_among, all_reads, all_writes}
-use Rattle.tree_model.proofs.Paths.{told, never, same_self, same_is, path_told, prefix_self, prefix_above, prefix_append, prefix_told, prefix_child, child_above, false_if, or_told}
+use Rattle.tree_model.specs.Accesses.{Place, all_writes}
+use Rattle.tree_model.proofs.Paths.{told, never, same_self, same_is, path_told, prefix_append, prefix_told, prefix_child, child_above, false_if}
 use Rattle.page_codec.specs.Values.{PageValue}
-use Rattle.draft_model.specs.Places.{Store, Holds, same, has_bit, slot_block, block_at}
+use Rattle.page_places.specs.Places.{Store, Holds, same, has_bit, slot_block, block_at}
 use Rattle.draft_model.specs.Views.{Copied, View, PageCopy, Copies, copy_of, copies, live, LiveAt, IsUncopied, reads_kind, writes_kind, did_read, did_write, Wants}
 use Rattle.draft_model.specs.Steps.{fed_page, fed, begun}
-use Rattle.draft_model.specs.Stands.{IsShared, SlotStands, Shape, IsKind, Stands, StandsFor, Feeds, Begins}
-use Rattle.draft_model.proofs.Facts.{has_bit_none, block_at_append, block_at_child, live_of, at_of, at_root, push, uncopied_dead}
-use Rattle.draft_model.proofs.Ways.{has_live, slot_case}
-use Rattle.draft_model.proofs.Moves.{some_is, child_is, not_below}
+use Rattle.draft_model.specs.Stands.{IsShared, SlotStands, Shape, Feeds, Begins}
+use Rattle.page_places.proofs.Facts.{block_at_append, block_at_child, at_root}
+use Rattle.draft_model.proofs.Facts.{has_bit_none, live_of, push, uncopied_dead}
+use Rattle.draft_model.proofs.Ways.{slot_case}
+use Rattle.draft_model.proofs.Moves.{some_is, child_is}
 
 abbrev fed_copy : PageValue → PageCopy
 fed_copy page = record { live = true; page = record page { modified = 0 } }

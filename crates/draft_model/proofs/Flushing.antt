@@ -7,18 +7,19 @@ use Rattle.afs_base.specs.Path.{is_prefix, are_slots}
 use Rattle.afs_base.specs.declared.kind.Kind.TheVariants.{Data}
 use Rattle.tree_model.specs.declared.step.Step.{Step}
 use Rattle.tree_model.specs.Trees.{Tree, has, tree_after}
-use Rattle.tree_model.specs.Accesses.{Place, all_writes, touches}
+use Rattle.tree_model.specs.Accesses.{Place, all_writes, touches, written_paths}
 use Rattle.tree_model.proofs.Paths.{never, same_is, prefix_append, false_if}
 use Rattle.tree_model.proofs.TreeFacts.{absent}
 use Rattle.tree_model.proofs.Untouched.{among_touches, untouched_run}
 use Rattle.page_codec.specs.Values.{ReferenceValue, PageValue}
-use Rattle.draft_model.specs.Places.{Store, Holds, same, slot_block, block_at}
+use Rattle.page_places.specs.Places.{Store, Holds, same, slot_block, block_at}
 use Rattle.draft_model.specs.Views.{Copied, View, PageCopy, Copies, copy_of, copies, live, LiveAt}
 use Rattle.draft_model.specs.Stands.{Shape, StandsFor}
 use Rattle.draft_model.specs.Told.{is_one_of}
-use Rattle.draft_model.specs.Flush.{Placed, written_paths, IsPlaced, block_of, flushed_slot, flushed_slots, flushed_page, AreWhole, Flushed, SharesRest}
+use Rattle.draft_model.specs.Flush.{Placed, IsPlaced, block_of, flushed_slot, flushed_slots, flushed_page, AreWhole, Flushed, SharesRest}
 use Rattle.draft_model.specs.Laws.{FlushLaw}
-use Rattle.draft_model.proofs.Facts.{block_at_append, at_of, at_root, push}
+use Rattle.page_places.proofs.Facts.{block_at_append, at_root}
+use Rattle.draft_model.proofs.Facts.{at_of, push}
 use Rattle.draft_model.proofs.Ways.{has_live, slot_case, gone_below}
 use Rattle.draft_model.proofs.Moves.{slot_small}
 use Rattle.draft_model.proofs.Telling.{fresh_told}

@@ -7,5 +7,6 @@ pub mod Runs
 pub mod Feeding
 pub mod Telling
 pub mod Flushing
-pub mod Turns
-pub mod Few
+pub mod Keeping
+pub mod Accessing
+pub mod Entries

@@ -1,5 +1,5 @@
 -- The marks after a step are the accesses of the steps so far.
-use Rattle.std.proofs.Common.{◌≡◌, ℕ, ◌^◌, ◌<◌, Bool, true, false, not, ◌&&◌, ◌||◌, cond, nat_eq, nat_lt, List, [], ◌∷◌, ◌++◌, length, ◌⊎◌, inl, inr, refl, sym, ap, subst, ◌∙◌, Option, Some, None, option_map, is_some, eqb-true, eq-eqb, lt-ltb}
+use Rattle.std.proofs.Common.{◌≡◌, ℕ, ◌^◌, ◌<◌, Bool, true, false, not, ◌&&◌, ◌||◌, cond, nat_eq, nat_lt, List, [], ◌∷◌, ◌++◌, length, ◌⊎◌, inl, inr, refl, sym, ap, ◌∙◌, Option, Some, None, option_map, is_some, eqb-true, eq-eqb, lt-ltb}
 use Rattle.std.specs.Option.{option_map_or}
 use Rattle.std.specs.Int.RustNames.{bit_or}
 use Rattle.std.specs.Cmp.{first_so, second_so}
@@ -10,15 +10,15 @@ use Rattle.tree_model.specs.declared.step.Step.{Step}
 use Rattle.tree_model.specs.declared.step.Step.TheVariants.{ReadAt, ListAt, WriteAt, MakeAt, DropAt}
 use Rattle.tree_model.specs.Children.{path_of}
 use Rattle.tree_model.specs.Trees.{Tree, has, can_make}
-use Rattle.tree_model.specs.Accesses.{Place, is_among, slot_of, on_the_way, slots_at, target, own_reads, step_reads, step_writes}
-use Rattle.tree_model.proofs.Paths.{told, never, same_test, false_if, both_true, same_self, same_is, path_told, prefix_self, prefix_trans, prefix_append, prefix_above, prefix_child, or_left, or_right}
+use Rattle.tree_model.specs.Accesses.{Place, is_among, slot_of, on_the_way, slots_at, target, own_reads, step_reads, step_writes, end_of}
+use Rattle.tree_model.proofs.Paths.{told, never, same_test, false_if, both_true, same_self, same_is, path_told, prefix_self, prefix_trans, prefix_above, or_left, or_right}
 use Rattle.tree_model.proofs.PlaceFacts.{among_append, among_first, among_told, among_later, not_among, slots_among}
 use Rattle.tree_model.proofs.AccessTests.{slot_on_the_way, data_on_the_way, slot_at, data_at}
-use Rattle.draft_model.specs.Places.{Store, Holds, same, has_bit, slot_block}
-use Rattle.draft_model.specs.Views.{Copied, View, PageCopy, Copies, copies, live, LiveAt, reads_kind, writes_kind, did_read, did_write, end_of, WantsNone}
-use Rattle.draft_model.specs.Steps.{is_there, makes, acts, way_bit, reads_data, writes_data, searched_by, page_by, taken, is_made, made, stepped}
-use Rattle.draft_model.specs.Stands.{Shape, IsKind, Stands}
-use Rattle.draft_model.proofs.Facts.{or_false, or_true, and_true, and_false, has_bit_or, has_bit_pow, has_bit_all, way_bit_is, live_of, at_of}
+use Rattle.page_places.specs.Places.{Store, Holds, same, has_bit, slot_block}
+use Rattle.draft_model.specs.Views.{Copied, View, PageCopy, Copies, copies, live, reads_kind, writes_kind, did_read, did_write, WantsNone}
+use Rattle.draft_model.specs.Steps.{is_there, makes, acts, way_bit, taken, is_made, made, stepped}
+use Rattle.draft_model.specs.Stands.{IsKind, Stands}
+use Rattle.draft_model.proofs.Facts.{or_false, or_true, and_true, and_false, has_bit_or, has_bit_pow, has_bit_all, way_bit_is}
 use Rattle.draft_model.proofs.Ways.{way_told, child_told, makes_told}
 
 -- ---- single places

@@ -1,21 +1,20 @@
 -- What a step does to the copied pages, apart from what was read of them.
-use Rattle.std.proofs.Common.{◌≡◌, ℕ, ◌<◌, Bool, true, false, not, ◌&&◌, ◌||◌, cond, nat_eq, nat_lt, List, [], ◌∷◌, ◌++◌, length, ◌⊎◌, inl, inr, refl, sym, ap, subst, ◌∙◌, Option, Some, None, option_map, is_some, ltb-true}
+use Rattle.std.proofs.Common.{◌≡◌, ℕ, ◌<◌, Bool, true, false, not, ◌&&◌, cond, nat_lt, List, [], ◌∷◌, ◌++◌, length, inl, inr, refl, sym, ap, subst, ◌∙◌, Option, Some, None, option_map, is_some, ltb-true}
 use Rattle.std.specs.Option.{option_map_or}
 use Rattle.std.specs.FinMap as map
 use Rattle.std.specs.Cmp.{first_so, second_so}
 use Rattle.afs_base.specs.Path.{is_prefix, are_slots}
-use Rattle.afs_base.specs.declared.kind.Kind.TheVariants.{Data, Slot}
+use Rattle.afs_base.specs.declared.kind.Kind.TheVariants.{Data}
 use Rattle.tree_model.specs.declared.step.Step.{Step}
-use Rattle.tree_model.specs.Children.{path_of}
-use Rattle.tree_model.specs.Trees.{Tree, has}
+use Rattle.tree_model.specs.Trees.{Tree}
 use Rattle.tree_model.specs.Accesses.{Place, is_among}
-use Rattle.tree_model.proofs.Paths.{told, never, same_is, path_told, prefix_self, prefix_append, prefix_child, child_above, not_true}
+use Rattle.tree_model.proofs.Paths.{never, prefix_self, prefix_append, child_above, not_true}
 use Rattle.tree_model.proofs.Theirs.{way_child}
-use Rattle.draft_model.specs.Places.{Store, block_at, same}
-use Rattle.draft_model.specs.Views.{Copied, View, PageCopy, Copies, copy_of, copies, live, LiveAt, IsUncopied}
+use Rattle.page_places.specs.Places.{Store}
+use Rattle.draft_model.specs.Views.{Copied, View, PageCopy, Copies, copy_of, copies, live, LiveAt}
 use Rattle.draft_model.specs.Steps.{acts, page_by, cuts, taken, is_made, blank, made, stepped}
-use Rattle.draft_model.specs.Stands.{IsShared, SlotStands, Shape}
-use Rattle.draft_model.proofs.Facts.{at_root, live_of}
+use Rattle.draft_model.specs.Stands.{SlotStands, Shape}
+use Rattle.page_places.proofs.Facts.{at_root}
 
 abbrev pub moved_copy : Bool → Step → List ℕ → PageCopy → PageCopy
 moved_copy done step p c = record { live = c.live && not (cuts done step p); page = page_by done c.live step p c.page }

@@ -1,25 +1,25 @@
 -- A step for which no page is wanted: the draft stands for one step more.
-use Rattle.std.proofs.Common.{◌≡◌, ℕ, Bool, true, false, not, ◌&&◌, ◌||◌, cond, List, [], ◌∷◌, ◌++◌, length, ◌⊎◌, inl, inr, refl, sym, ap, subst, ◌∙◌, Option, Some, None, option_map, is_some, append_assoc, append-nil}
+use Rattle.std.proofs.Common.{◌≡◌, ℕ, Bool, true, false, not, ◌&&◌, ◌||◌, cond, List, [], ◌∷◌, ◌++◌, refl, sym, ap, subst, ◌∙◌, Option, Some, None, option_map, is_some, append_assoc, append-nil}
 use Rattle.std.specs.Option.{option_map_or}
 use Rattle.std.specs.List.{list_all}
 use Rattle.std.specs.FinMap as map
 use Rattle.std.specs.Cmp.{first_so, second_so}
-use Rattle.afs_base.specs.Path.{is_prefix, are_slots}
-use Rattle.afs_base.specs.declared.kind.Kind.TheVariants.{Data, Slot}
+use Rattle.afs_base.specs.Path.{are_slots}
+use Rattle.afs_base.specs.declared.kind.Kind.TheVariants.{Data}
 use Rattle.tree_model.specs.declared.step.Step.{Step}
 use Rattle.tree_model.specs.declared.step.Step.TheVariants.{ReadAt, ListAt, WriteAt, MakeAt, DropAt}
 use Rattle.tree_model.specs.Children.{path_of}
-use Rattle.tree_model.specs.Trees.{Tree, has, IsTree, can_make, without, after, tree_after}
-use Rattle.tree_model.specs.Accesses.{Place, is_among, slot_of, slots_at, target, step_reads, step_writes, all_reads, all_writes}
-use Rattle.tree_model.proofs.Paths.{told, never, both_true, prefix_self, child_not_root, or_left, or_right, not_true}
+use Rattle.tree_model.specs.Trees.{Tree, has, without, after, tree_after}
+use Rattle.tree_model.specs.Accesses.{Place, slot_of, slots_at, target, step_reads, step_writes, all_reads, all_writes, end_of}
+use Rattle.tree_model.proofs.Paths.{never, both_true, prefix_self, child_not_root, not_true}
 use Rattle.tree_model.proofs.TreeFacts.{tree_step, tree_insert, tree_without, above_child}
 use Rattle.tree_model.proofs.PlaceFacts.{among_left, among_right, among_later, among_first}
-use Rattle.draft_model.specs.Places.{Store, Holds, same, slot_block}
-use Rattle.draft_model.specs.Views.{Copied, View, PageCopy, Copies, copies, live, LiveAt, end_of, WantsNone}
+use Rattle.page_places.specs.Places.{Store, Holds, slot_block}
+use Rattle.draft_model.specs.Views.{View, PageCopy, Copies, copies, live, WantsNone}
 use Rattle.draft_model.specs.Steps.{is_there, makes, acts, stepped, reply_in}
-use Rattle.draft_model.specs.Stands.{Shape, Stands, StandsFor, Runs}
-use Rattle.draft_model.proofs.Facts.{and_true, live_of, at_of}
-use Rattle.draft_model.proofs.Ways.{way_told, child_told, makes_told, has_live, reply_told}
+use Rattle.draft_model.specs.Stands.{Shape, Stands, Runs}
+use Rattle.draft_model.proofs.Facts.{and_true, at_of}
+use Rattle.draft_model.proofs.Ways.{way_told, child_told, makes_told, reply_told}
 use Rattle.draft_model.proofs.Marks.{there_above, made_places, read_told, written_told}
 use Rattle.draft_model.proofs.Moves.{moved, moved_copy, moved_is, shape_same, shape_more}
 use Rattle.draft_model.proofs.Shapes.{shape_writes, shape_makes, shape_drops}

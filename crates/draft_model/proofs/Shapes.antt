@@ -1,28 +1,27 @@
 -- Each step leaves the copied pages in shape: a write, a make that is done, and a drop that is done.
-use Rattle.std.proofs.Common.{◌≡◌, ℕ, ◌^◌, ◌<◌, Bool, true, false, not, ◌&&◌, ◌||◌, cond, nat_eq, nat_lt, List, [], ◌∷◌, ◌++◌, length, ◌⊎◌, inl, inr, refl, sym, ap, subst, ◌∙◌, Option, Some, None, option_map, is_some, eqb-true, eq-eqb}
+use Rattle.std.proofs.Common.{◌≡◌, ℕ, Bool, true, false, not, ◌&&◌, ◌||◌, cond, nat_eq, List, [], ◌∷◌, ◌++◌, length, inl, inr, refl, sym, ap, subst, ◌∙◌, Option, Some, None, option_map, eqb-true, eq-eqb}
 use Rattle.std.specs.Option.{option_map_or, option_and_then}
 use Rattle.std.specs.List.{slice_get, slice_set}
 use Rattle.std.specs.FinMap as map
-use Rattle.std.specs.Int.RustNames.{bit_or}
 use Rattle.std.specs.Cmp.{first_so, second_so}
 use Rattle.std.proofs.lemmas.Bool.{eqb-false}
 use Rattle.afs_base.specs.Path.{is_prefix, are_slots}
-use Rattle.afs_base.specs.declared.kind.Kind.TheVariants.{Data, Slot}
-use Rattle.tree_model.specs.declared.step.Step.{Step}
-use Rattle.tree_model.specs.declared.step.Step.TheVariants.{ReadAt, ListAt, WriteAt, MakeAt, DropAt}
+use Rattle.afs_base.specs.declared.kind.Kind.TheVariants.{Data}
+use Rattle.tree_model.specs.declared.step.Step.TheVariants.{WriteAt, MakeAt, DropAt}
 use Rattle.tree_model.specs.Children.{path_of}
 use Rattle.tree_model.specs.Trees.{Tree, has, IsTree, without, after}
 use Rattle.tree_model.specs.Accesses.{Place, is_among}
-use Rattle.tree_model.proofs.Paths.{told, never, same_self, same_is, path_told, prefix_self, prefix_above, prefix_append, prefix_trans, prefix_child, child_above, child_not_root, or_left, or_right, or_told, both_true, false_if}
+use Rattle.tree_model.proofs.Paths.{told, never, same_self, same_is, path_told, prefix_self, prefix_above, prefix_append, prefix_trans, prefix_child, child_above, child_not_root, or_right, both_true, false_if}
 use Rattle.tree_model.proofs.TreeFacts.{get_insert, get_without, has_insert, has_without}
 use Rattle.tree_model.proofs.Untouched.{prefix_either}
-use Rattle.page_codec.specs.Values.{ReferenceValue, PageValue}
+use Rattle.page_codec.specs.Values.{ReferenceValue}
 use Rattle.page_codec.specs.Blank.{empty_reference}
-use Rattle.draft_model.specs.Places.{Store, same, has_bit, slot_block}
+use Rattle.page_places.specs.Places.{Store, same, has_bit, slot_block}
 use Rattle.draft_model.specs.Views.{PageCopy, Copies, live, LiveAt, IsUncopied}
 use Rattle.draft_model.specs.Steps.{blank}
 use Rattle.draft_model.specs.Stands.{SlotStands, Shape}
-use Rattle.draft_model.proofs.Facts.{or_false, and_true, and_false, has_bit_or, has_bit_pow, has_bit_all, blank_slot, slot_block_set, slot_get_other, live_of, at_of, at_root, push}
+use Rattle.page_places.proofs.Facts.{at_root}
+use Rattle.draft_model.proofs.Facts.{or_false, and_true, and_false, has_bit_all, blank_slot, slot_block_set, slot_get_other, live_of}
 use Rattle.draft_model.proofs.Marks.{modified_more}
 use Rattle.draft_model.proofs.Moves.{moved_copy, moved, fresh_copy, some_is, WasLive, was_live, live_moved, none_moved, was_copied, child_is, slot_small, slot_stays, not_below}
 

@@ -1,5 +1,5 @@
 -- The flags, the masks and the fresh paths of a draft are those of the update that it stands for.
-use Rattle.std.proofs.Common.{◌≡◌, ℕ, zero, suc, ◌+◌, ◌^◌, ◌<◌, Bool, true, false, not, ◌&&◌, ◌||◌, cond, nat_eq, nat_lt, T, List, [], ◌∷◌, ◌++◌, map, length, ◌⊎◌, inl, inr, refl, sym, ap, subst, ◌∙◌, Option, Some, None, option_map, is_some, arith, eqb-true, eq-eqb, ltb-true, true≢false, lit<}
+use Rattle.std.proofs.Common.{◌≡◌, ℕ, zero, suc, ◌^◌, ◌<◌, Bool, true, false, not, ◌&&◌, ◌||◌, cond, nat_eq, nat_lt, T, List, [], ◌∷◌, ◌++◌, map, length, ◌⊎◌, inl, inr, refl, sym, ap, subst, ◌∙◌, Option, Some, None, option_map, is_some, arith, eqb-true, ltb-true, true≢false, lit<}
 use Rattle.std.specs.Option.{option_map_or}
 use Rattle.std.specs.List.{list_any, list_all}
 use Rattle.std.specs.Int.{bit_at}
@@ -16,38 +16,40 @@ use Rattle.afs_base.specs.declared.kind.Kind.TheVariants.{Data, Slot}
 use Rattle.tree_model.specs.declared.step.Step.{Step}
 use Rattle.tree_model.specs.declared.step.Step.TheVariants.{ReadAt, ListAt, WriteAt, MakeAt, DropAt}
 use Rattle.tree_model.specs.Children.{path_of}
-use Rattle.tree_model.specs.Trees.{Tree, has, IsTree, can_make, after, tree_after, every_slot, slots_below}
-use Rattle.tree_model.specs.Accesses.{Place, is_among, slot_of, on_the_way, slots_at, target, own_reads, step_reads, step_writes, all_reads, all_writes, touches, fresh_of}
-use Rattle.tree_model.proofs.Paths.{told, never, same_test, false_if, both_true, same_is, path_total, path_only, prefix_self, prefix_above, prefix_append, prefix_told, prefix_trans, or_left, or_right, or_told}
+use Rattle.tree_model.specs.Trees.{Tree, has, IsTree, can_make, after, tree_after, every_slot, numbers_below}
+use Rattle.tree_model.specs.Accesses.{Place, is_among, slot_of, on_the_way, slots_at, target, own_reads, step_reads, step_writes, all_reads, all_writes, touches}
+use Rattle.tree_model.proofs.Paths.{told, never, same_test, false_if, both_true, path_total, path_only, prefix_self, prefix_above, prefix_append, prefix_told, prefix_trans, or_left, or_right, or_told}
 use Rattle.tree_model.proofs.TreeFacts.{tree_step}
-use Rattle.tree_model.proofs.PlaceFacts.{among_append, among_either, among_told, among_left, among_right, among_first, among_later, not_among, on_way}
+use Rattle.tree_model.proofs.KeyLists.{Key, bare, marked, bare_sorted, bare_found, bare_keys}
+use Rattle.tree_model.proofs.PlaceFacts.{among_either, among_told, among_left, among_right, among_first, among_later, not_among, on_way}
 use Rattle.tree_model.proofs.AccessTests.{slot_at}
-use Rattle.draft_model.specs.Places.{Store, Holds, same, has_bit, slot_block}
-use Rattle.draft_model.specs.Views.{Copied, View, PageCopy, Copies, copy_of, copies, live, LiveAt, reads_kind, writes_kind, did_read, did_write}
-use Rattle.draft_model.specs.Stands.{IsShared, SlotStands, Shape, IsKind, Stands, StandsFor}
-use Rattle.draft_model.specs.Told.{is_marked, flags_of, searched_of, modified_of, has_slot, FlagsTold, TellsFlags, TellsMasks, WroteAt, IsFresh, are_rising, is_one_of, AreFresh, TellsFresh}
-use Rattle.draft_model.specs.Laws.{AreMasks}
-use Rattle.draft_model.proofs.Facts.{has_bit_none, live_of, at_of, at_root, push, or_false}
-use Rattle.draft_model.proofs.Ways.{has_live, slot_case, dead_below}
+use Rattle.page_places.specs.Places.{Store, same, has_bit, slot_block}
+use Rattle.draft_model.specs.Views.{Copied, View, PageCopy, Copies, copy_of, copies, live, LiveAt, writes_kind, did_read, did_write}
+use Rattle.draft_model.specs.Stands.{IsShared, Shape, IsKind, StandsFor}
+use Rattle.draft_model.specs.Laws.{WriteLaw}
+use Rattle.draft_model.specs.Told.{is_marked, flags_of, searched_of, modified_of, has_slot, FlagsTold, TellsFlags, TellsMasks, are_rising, is_one_of, AreFresh, TellsFresh}
+use Rattle.page_places.proofs.Facts.{at_root}
+use Rattle.draft_model.proofs.Facts.{has_bit_none, at_of, push, or_false}
+use Rattle.draft_model.proofs.Ways.{has_live, slot_case}
 use Rattle.draft_model.proofs.Marks.{is_data, number, cond_no_slot, made_places}
 use Rattle.draft_model.proofs.Moves.{slot_small}
 use Rattle.draft_model.proofs.Feeding.{holds_tree}
 
 -- ---- the slots of a page
 
-pub any_below : (f : ℕ → Bool) (n k : ℕ) → k < n → f k ≡ true → list_any f (slots_below n) ≡ true
-unfolding slots_below
+pub any_below : (f : ℕ → Bool) (n k : ℕ) → k < n → f k ≡ true → list_any f (numbers_below n) ≡ true
+unfolding numbers_below
 any_below f zero k h e = absurd (omega arith)
-any_below f (suc n) k h e = list_any-append f (slots_below n) (n ∷ []) ∙ by (told (nat_eq k n)) (λ g. any_below f n k g e)
+any_below f (suc n) k h e = list_any-append f (numbers_below n) (n ∷ []) ∙ by (told (nat_eq k n)) (λ g. any_below f n k g e)
   where
-    by : (nat_eq k n ≡ true) ⊎ (nat_eq k n ≡ false) → (k < n → list_any f (slots_below n) ≡ true) → (list_any f (slots_below n) || (f n || false)) ≡ true
-    by (inl g) rest = or_right (list_any f (slots_below n)) (f n || false) (or_left (f n) false (ap f (sym (eqb-true k n g)) ∙ e))
-    by (inr g) rest = or_left (list_any f (slots_below n)) (f n || false) (rest (omega (arith, eqb-false k n g)))
+    by : (nat_eq k n ≡ true) ⊎ (nat_eq k n ≡ false) → (k < n → list_any f (numbers_below n) ≡ true) → (list_any f (numbers_below n) || (f n || false)) ≡ true
+    by (inl g) rest = or_right (list_any f (numbers_below n)) (f n || false) (or_left (f n) false (ap f (sym (eqb-true k n g)) ∙ e))
+    by (inr g) rest = or_left (list_any f (numbers_below n)) (f n || false) (rest (omega (arith, eqb-false k n g)))
 
-pub some_below : (f : ℕ → Bool) (n : ℕ) → list_any f (slots_below n) ≡ true → (k : ℕ) × (k < n) × (f k ≡ true)
-unfolding slots_below
+pub some_below : (f : ℕ → Bool) (n : ℕ) → list_any f (numbers_below n) ≡ true → (k : ℕ) × (k < n) × (f k ≡ true)
+unfolding numbers_below
 some_below f zero h = never h refl
-some_below f (suc n) h = elim (or_told (list_any f (slots_below n)) (f n || false) (sym (list_any-append f (slots_below n) (n ∷ [])) ∙ h)) [
+some_below f (suc n) h = elim (or_told (list_any f (numbers_below n)) (f n || false) (sym (list_any-append f (numbers_below n) (n ∷ [])) ∙ h)) [
   | inl e ↦ let rest = some_below f n e in (rest.0, omega (arith, rest.1), rest.2)
   | inr e ↦ (n, omega arith, sym (or_false (f n)) ∙ e)
 ]
@@ -67,26 +69,27 @@ bit_zero m k h = let apart = eqb-false (bit_at m k) 1 h in by (bit_at m k) (bit_
     by (suc (suc n)) small e = absurd (omega arith)
 
 -- a mask of sixteen bits is not 0 where a bit is set
-pub marked_any : (m : ℕ) → m < 2 ^ 16 → is_marked m ≡ list_any (has_bit m) every_slot
+pub marked_any : (m : ℕ) → m < 2 ^ 16 → not (nat_eq m 0) ≡ is_marked m
 marked_any m small = same_test _ _ there back
   where
-    none : list_any (has_bit m) every_slot ≡ false → m ≡ 0
+    none : is_marked m ≡ false → m ≡ 0
     none e = same_from_bits_below 16 m 0 small (lit< tt) (λ k h. bit_zero m k (false_if (has_bit m k) (λ g. sym e ∙ any_below (has_bit m) 16 k h g)) ∙ sym (bit_at-zero k))
 
-    there : is_marked m ≡ true → list_any (has_bit m) every_slot ≡ true
-    there h = elim (told (list_any (has_bit m) every_slot)) [
+    there : not (nat_eq m 0) ≡ true → is_marked m ≡ true
+    there h = elim (told (is_marked m)) [
       | inl e ↦ e
-      | inr e ↦ never h (ap is_marked (none e))
+      | inr e ↦ never h (ap (λ n. not (nat_eq n 0)) (none e))
     ]
 
-    back : list_any (has_bit m) every_slot ≡ true → is_marked m ≡ true
-    back h = elim (told (is_marked m)) [
-      | inl e ↦ e
-      | inr e ↦ let some = some_below (has_bit m) 16 h in never (ap (λ n. has_bit n some.0) (sym (zero_of m e)) ∙ some.2) (has_bit_none some.0)
+    back : is_marked m ≡ true → not (nat_eq m 0) ≡ true
+    back h = elim (told (nat_eq m 0)) [
+      | inl e ↦ let some = some_below (has_bit m) 16 h in never (ap (λ n. has_bit n some.0) (sym (eqb-true m 0 e)) ∙ some.2) (has_bit_none some.0)
+      | inr e ↦ ap not e
     ]
-      where
-        zero_of : (n : ℕ) → is_marked n ≡ false → n ≡ 0
-        zero_of n g = elim (told (nat_eq n 0)) [ inl e ↦ eqb-true n 0 e | inr e ↦ never (ap not e) g ]
+
+-- no bit of 0 is set
+pub unmarked : is_marked 0 ≡ false
+unmarked = false_if (is_marked 0) (λ h. let some = some_below (has_bit 0) 16 h in sym (has_bit_none some.0) ∙ some.2)
 
 -- ---- masks
 
@@ -149,16 +152,16 @@ writes_read t done (step ∷ steps) p k tree h = elim (among_either (step_writes
 -- ---- flags
 
 -- a mask's mark is that some slot is among the places
-mark_is : (m : ℕ) (places : List Place) (p : List ℕ) → m < 2 ^ 16 → ((k : ℕ) → k < 16 → has_bit m k ≡ is_among places (p, Slot k)) → is_marked m ≡ has_slot places p
-mark_is m places p small is = marked_any m small ∙ any_same (has_bit m) (λ k. is_among places (p, Slot k)) is
+mark_is : (m : ℕ) (places : List Place) (p : List ℕ) → ((k : ℕ) → k < 16 → has_bit m k ≡ is_among places (p, Slot k)) → is_marked m ≡ has_slot places p
+mark_is m places p is = any_same (has_bit m) (λ k. is_among places (p, Slot k)) is
 
 or_under : (a b : Bool) → (b ≡ true → a ≡ true) → (a || b) ≡ a
 or_under true b h = refl
 or_under false true h = sym (h refl)
 or_under false false h = refl
 
-pub tells_flags : (d : View) (p : List ℕ) → AreMasks (d p) → TellsFlags d p (flags_of (d p))
-tells_flags d p masks store root a steps was = by (d p) refl masks
+pub tells_flags : (d : View) (p : List ℕ) → TellsFlags d p (flags_of (d p))
+tells_flags d p store root a steps was = by (d p) refl
   where
     r : List Place
     r = all_reads a [] steps
@@ -177,16 +180,16 @@ tells_flags d p masks store root a steps was = by (d p) refl masks
         let some = some_below (λ k. is_among w (p, Slot k)) 16 h in
         any_below (λ k. is_among r (p, Slot k)) 16 some.0 some.1 (writes_read a [] steps p some.0 (holds_tree store root a was.base) some.2)
 
-    by : (o : Option Copied) → d p ≡ o → AreMasks o → FlagsTold a steps p (flags_of o)
-    by None e small = record {
+    by : (o : Option Copied) → d p ≡ o → FlagsTold a steps p (flags_of o)
+    by None e = record {
       read = ap (λ x. option_map_or (λ (c : Copied). c.read) x false) (sym e) ∙ was.stands.read p Data tt;
       written = ap (λ x. option_map_or (λ (c : Copied). c.written) x false) (sym e) ∙ was.stands.written p Data tt;
-      searched = mark_is 0 r p (lit< tt) (λ k h. bits None e k ∙ was.stands.read p (Slot k) h);
-      modified = mark_is 0 w p (lit< tt) (λ k h. bits_written None e k ∙ was.stands.written p (Slot k) h);
+      searched = sym unmarked ∙ mark_is 0 r p (λ k h. bits None e k ∙ was.stands.read p (Slot k) h);
+      modified = sym unmarked ∙ mark_is 0 w p (λ k h. bits_written None e k ∙ was.stands.written p (Slot k) h);
     }
-    by (Some c) e small =
-        let s_is = mark_is c.searched r p small.0 (λ k h. bits (Some c) e k ∙ was.stands.read p (Slot k) h) in
-        let m_is = mark_is c.page.modified w p small.1 (λ k h. bits_written (Some c) e k ∙ was.stands.written p (Slot k) h) in
+    by (Some c) e =
+        let s_is = mark_is c.searched r p (λ k h. bits (Some c) e k ∙ was.stands.read p (Slot k) h) in
+        let m_is = mark_is c.page.modified w p (λ k h. bits_written (Some c) e k ∙ was.stands.written p (Slot k) h) in
         record {
           read = ap (λ x. option_map_or (λ (y : Copied). y.read) x false) (sym e) ∙ was.stands.read p Data tt;
           written = ap (λ x. option_map_or (λ (y : Copied). y.written) x false) (sym e) ∙ was.stands.written p Data tt;
@@ -254,6 +257,23 @@ writes_kinds t (step ∷ steps) p (Slot k) small h = elim (among_either (step_wr
   | inr e ↦ writes_kinds (after t step) steps p (Slot k) (second_so (are_slots (target step)) (list_all (λ (s : Step). are_slots (target s)) steps) small) e
 ]
 
+-- whether something was written is whether the draft wrote somewhere
+pub tells_writes : WriteLaw
+tells_writes d b is store root a steps was = same_test _ _ (there (all_writes a steps) (λ x h. h)) (back (all_writes a steps) refl)
+  where
+    there : (w : List Place) → ((x : Place) → is_among (all_writes a steps) x ≡ true → is_among w x ≡ true) → b ≡ true → not (nat_eq (length w) 0) ≡ true
+    there (y ∷ w) more h = ap not (false_if (nat_eq (suc (length w)) 0) (λ e. absurd (omega (arith, eqb-true (suc (length w)) 0 e))))
+    there [] more h =
+        let wrote = is.0 h in
+        not_among (wrote.0, wrote.1.0) (more (wrote.0, wrote.1.0) (sym (was.stands.written wrote.0 wrote.1.0 wrote.1.1) ∙ wrote.1.2))
+
+    back : (w : List Place) → all_writes a steps ≡ w → not (nat_eq (length w) 0) ≡ true → b ≡ true
+    back [] e h = never h refl
+    back (x ∷ w) e h =
+        let here : is_among (all_writes a steps) x ≡ true = ap (λ (xs : List Place). is_among xs x) e ∙ among_first x w in
+        let kind = writes_kinds a steps x.0 x.1 was.kept here in
+        is.1 (x.0, (x.1, kind, was.stands.written x.0 x.1 kind ∙ here))
+
 -- a page at or below which something was written
 pub touches_of : (xs : List Place) (q : List ℕ) (x : Place) → is_among xs x ≡ true → is_prefix q x.0 ≡ true → touches xs q ≡ true
 touches_of [] q x h on = not_among x h
@@ -319,41 +339,8 @@ fresh_told store root a steps d paths fresh was q = same_test _ _ there back
 
 -- ---- two lists of paths in order, with the same members
 
-abbrev Key : Type 0
-Key = List ℕ × Unit {0}
-
 abbrev key_of : List ℕ → Key
 key_of p = (p, tt)
-
-abbrev Entry : Type 0
-Entry = List ℕ × List ℕ
-
-abbrev bare : List Entry → List Key
-bare entries = map (λ (e : Entry). key_of e.0) entries
-
-abbrev marked : Bool → Option (Unit {0})
-marked b = cond b (Some tt) None
-
-bare_below : (p : List ℕ) (es : List Entry) → below_all path_cmp p (bare es) ≡ below_all path_cmp p es
-bare_below p [] = refl
-bare_below p (e ∷ es) = ap (λ b. is_lt (path_cmp p e.0) && b) (bare_below p es)
-
-bare_sorted : (es : List Entry) → is_sorted path_cmp (bare es) ≡ is_sorted path_cmp es
-bare_sorted [] = refl
-bare_sorted (e ∷ es) = λ i. bare_below e.0 es i && bare_sorted es i
-
-bare_found : (q : List ℕ) (es : List Entry) → find path_cmp q (bare es) ≡ marked (is_some (find path_cmp q es))
-bare_found q [] = refl
-bare_found q (e ∷ es) = by (eq_by_cmp path_cmp q e.0) (bare_found q es)
-  where
-    by : (b : Bool) → find path_cmp q (bare es) ≡ marked (is_some (find path_cmp q es))
-        → cond b (Some tt) (find path_cmp q (bare es)) ≡ marked (is_some (cond b (Some e.1) (find path_cmp q es)))
-    by true rest = refl
-    by false rest = rest
-
-bare_keys : (es : List Entry) → map (λ (e : Key). e.0) (bare es) ≡ map (λ (e : Entry). e.0) es
-bare_keys [] = refl
-bare_keys (e ∷ es) = ap (λ (ps : List (List ℕ)). e.0 ∷ ps) (bare_keys es)
 
 keys_below : (p : List ℕ) (ps : List (List ℕ)) → below_all path_cmp p (map key_of ps) ≡ list_all (λ q. is_lt (path_cmp p q)) ps
 keys_below p [] = refl

@@ -1,22 +1,22 @@
 -- Where no page is wanted, the live pages on a step's way are those of the tree, and the answer is the tree's.
-use Rattle.std.proofs.Common.{◌≡◌, ℕ, ◌^◌, Bool, true, false, not, ◌&&◌, ◌||◌, cond, List, [], ◌∷◌, ◌++◌, ◌⊎◌, inl, inr, refl, sym, ap, subst, ◌∙◌, Option, Some, None, is_some, sum_by, if◌then◌else◌}
+use Rattle.std.proofs.Common.{◌≡◌, ℕ, ◌^◌, Bool, true, false, not, ◌&&◌, ◌||◌, cond, List, [], ◌∷◌, ◌++◌, inl, inr, refl, sym, ap, subst, ◌∙◌, Option, Some, None, is_some, sum_by}
 use Rattle.std.specs.Option.{option_map_or}
 use Rattle.std.specs.FinMap as map
 use Rattle.afs_base.specs.Path.{is_prefix}
 use Rattle.tree_model.specs.declared.step.Step.{Step}
 use Rattle.tree_model.specs.declared.step.Step.TheVariants.{ReadAt, ListAt, WriteAt, MakeAt, DropAt}
-use Rattle.tree_model.specs.declared.step.Reply.{Reply}
 use Rattle.tree_model.specs.declared.step.Reply.TheVariants.{Bytes, Slots, Done, Absent, Present}
 use Rattle.tree_model.specs.Children.{path_of}
-use Rattle.tree_model.specs.Trees.{Tree, has, can_make, every_slot, bit_of, child_bits, reply_of}
-use Rattle.tree_model.specs.Accesses.{Place, target}
-use Rattle.tree_model.proofs.Paths.{told, never, prefix_self, prefix_append, prefix_above, prefix_trans, false_if}
+use Rattle.tree_model.specs.Trees.{Tree, has, can_make, every_slot, reply_of}
+use Rattle.tree_model.specs.Accesses.{Place, end_of}
+use Rattle.tree_model.proofs.Paths.{told, prefix_self, prefix_append, prefix_above, prefix_trans, false_if}
 use Rattle.tree_model.proofs.TreeFacts.{absent}
-use Rattle.draft_model.specs.Places.{Store, Holds, block_at, slot_block, has_bit}
-use Rattle.draft_model.specs.Views.{PageCopy, Copies, live, LiveAt, end_of, WantsNone}
-use Rattle.draft_model.specs.Steps.{is_there, makes, acts, there_bit, there_bits, data_reply, reply_in}
+use Rattle.page_places.specs.Places.{Store, Holds, slot_block, has_bit}
+use Rattle.draft_model.specs.Views.{PageCopy, Copies, live, LiveAt, WantsNone}
+use Rattle.draft_model.specs.Steps.{is_there, makes, data_reply, reply_in}
 use Rattle.draft_model.specs.Stands.{Shape, SlotStands}
-use Rattle.draft_model.proofs.Facts.{live_of, at_of, at_root, push}
+use Rattle.page_places.proofs.Facts.{at_root}
+use Rattle.draft_model.proofs.Facts.{at_of, push}
 
 -- a live page is in the tree
 pub has_live : (store : Store) (root : ℕ) (a t : Tree) (w : List Place) (h : Copies) → Shape store root a t w h → (p : List ℕ) → live h p ≡ true → has t p ≡ true

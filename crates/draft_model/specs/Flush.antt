@@ -1,41 +1,21 @@
 -- How a draft becomes blocks: which paths are written, to which block each, and what page each block then holds.
-use Rattle.std.specs.Prelude.{◌≡◌, ℕ, ◌+◌, ◌≤◌, Bool, true, false, not, ◌&&◌, List, [], ◌∷◌, ◌++◌, map, length, nat_eq, if◌then◌else◌, Option, Some, None}
+use Rattle.std.specs.Prelude.{◌≡◌, ℕ, ◌+◌, Bool, true, not, ◌&&◌, List, [], ◌∷◌, ◌++◌, map, length, nat_eq, if◌then◌else◌, Option, Some, None}
 use Rattle.std.specs.List.{list_any}
 use Rattle.ref_flags.specs.Flagged.{Flagged, no_flags}
 use Rattle.ref_flags.specs.Codes.{with_mark}
 use Rattle.ref_flags.specs.declared.Mark.TheVariants.{Copy}
-use Rattle.tree_model.specs.declared.step.Step.{Step}
 use Rattle.tree_model.specs.Trees.{Tree, has}
+use Rattle.tree_model.specs.Accesses.{written_paths}
 use Rattle.page_codec.specs.Values.{ReferenceValue, PageValue}
-use Rattle.draft_model.specs.Places.{Store, same, block_at}
+use Rattle.page_places.specs.Places.{Store, same, block_at}
 use Rattle.draft_model.specs.Views.{Copied, View}
-use Rattle.draft_model.specs.Stands.{StandsFor}
-use Rattle.draft_model.specs.Told.{flags_of, IsFresh, are_rising, is_one_of, AreFresh}
+use Rattle.draft_model.specs.Stands.{SameBase}
+use Rattle.draft_model.specs.Told.{flags_of, AreFresh}
 
 -- a path that is written, and the block that takes its page
 pub record Placed : Type 0 where
   pub path : List ℕ
   pub block : ℕ
-
--- the paths that are written: the fresh ones, or `/` alone where none is fresh
-abbrev pub written_paths : List (List ℕ) → List (List ℕ)
-written_paths [] = [] ∷ []
-written_paths (p ∷ paths) = p ∷ paths
-
--- the draft stands for an update, which has at most 128 steps
-pub record IsOfUpdate (d : View) : Type 0 where
-  pub store : Store
-  pub root : ℕ
-  pub base : Tree
-  pub steps : List Step
-  pub stands : StandsFor store root base steps d
-  pub few : length steps ≤ 128
-
--- these paths, in order and of at most seven slots, are fresh
-pub record AreSomeFresh (d : View) (paths : List (List ℕ)) : Type 0 where
-  pub rising : are_rising paths ≡ true
-  pub fresh : (p : List ℕ) → is_one_of paths p ≡ true → IsFresh d p
-  pub short : (p : List ℕ) → is_one_of paths p ≡ true → length p ≤ 7
 
 -- each path that is written has its block, in the order of the paths
 pub record IsPlaced (d : View) (placed : List Placed) : Type 0 where
@@ -78,30 +58,16 @@ AreWhole store = (b : ℕ) (page : PageValue) → store b ≡ Some page → leng
 -- Each written path's page is in its block, and each block of the base is as it was.
 pub record Flushed (d : View) (placed : List Placed) (root : ℕ) (old new : Store) : Type 0 where
   pub page : (p : List ℕ) (b : ℕ) (c : Copied) → block_of placed p ≡ Some b → d p ≡ Some c → new b ≡ Some (flushed_page d placed p c.page)
-  pub kept : (p : List ℕ) (b : ℕ) → block_at old root p ≡ Some b → new b ≡ old b
+  pub kept : SameBase old new root
 
 -- the pages that were not written stay in the blocks that they had
 abbrev pub SharesRest : List Placed → Store → ℕ → Store → ℕ → Tree → Type 0
 SharesRest placed old root new top t =
     (p : List ℕ) → has t p ≡ true → block_of placed p ≡ None → block_at new top p ≡ block_at old root p
 
--- ---- block after block
+-- ---- the order of writing
 
--- the store after one block was written
-abbrev pub with_block : Store → ℕ → Option PageValue → Store
-with_block store b page n = if nat_eq n b then page else store n
-
--- the page that is written for the path of a place, where one was copied there
-abbrev pub page_for : View → List Placed → List ℕ → Option Copied → Option PageValue
-page_for d placed p None = None
-page_for d placed p (Some c) = Some (flushed_page d placed p c.page)
-
--- the store after these places were written, one after the other
-abbrev pub store_after : View → List Placed → List Placed → Store → Store
-store_after d placed [] store = store
-store_after d placed (x ∷ turns) store = store_after d placed turns (with_block store x.block (page_for d placed x.path (d x.path)))
-
--- the order of writing: the version page, which is the first place, comes last
+-- the version page, which is the first place, comes last
 abbrev pub in_turn : List Placed → List Placed
 in_turn [] = []
 in_turn (x ∷ placed) = placed ++ x ∷ []
@@ -114,7 +80,3 @@ is_block_of placed b = list_any (λ x. nat_eq b x.block) placed
 abbrev pub are_apart : List Placed → Bool
 are_apart [] = true
 are_apart (x ∷ placed) = not (is_block_of placed x.block) && are_apart placed
-
--- no block of the base is one of these
-abbrev pub AreNew : Store → ℕ → List Placed → Type 0
-AreNew old root placed = (p : List ℕ) (b : ℕ) → block_at old root p ≡ Some b → is_block_of placed b ≡ false

@@ -1,16 +1,16 @@
 -- The laws by which every draft meets its promises.
-use Rattle.std.specs.Prelude.{◌≡◌, ℕ, ◌^◌, ◌<◌, ◌≤◌, true, List, [], length, Option, Some, None}
+use Rattle.std.specs.Prelude.{◌≡◌, ℕ, Bool, true, ◌↔◌, List, [], length, Some}
 use Rattle.afs_base.specs.Path.{are_slots}
 use Rattle.tree_model.specs.Trees.{Tree, tree_after}
-use Rattle.tree_model.specs.Accesses.{target}
+use Rattle.tree_model.specs.Accesses.{target, end_of}
 use Rattle.tree_model.specs.declared.step.Step.{Step}
 use Rattle.page_codec.specs.Values.{PageValue}
-use Rattle.draft_model.specs.Places.{Store, Holds}
-use Rattle.draft_model.specs.Views.{Copied, View, copies, end_of, WantsNone}
+use Rattle.page_places.specs.Places.{Store, Holds}
+use Rattle.draft_model.specs.Views.{View, copies, Wants, WantsNone}
 use Rattle.draft_model.specs.Steps.{stepped, reply_in, fed, begun}
-use Rattle.draft_model.specs.Stands.{StandsFor, Runs, Feeds, Begins}
-use Rattle.draft_model.specs.Told.{flags_of, searched_of, modified_of, AreFresh, TellsFlags, TellsMasks, TellsFresh}
-use Rattle.draft_model.specs.Flush.{Placed, IsPlaced, block_of, AreWhole, Flushed, SharesRest, IsOfUpdate, AreSomeFresh, store_after, in_turn, are_apart, AreNew}
+use Rattle.draft_model.specs.Stands.{StandsFor, SameBase, Runs, Feeds, Begins}
+use Rattle.draft_model.specs.Told.{flags_of, searched_of, modified_of, Wrote, AreFresh, IsAccessed, IsAccessedBut, TellsFlags, TellsMasks, TellsWrites, TellsFresh}
+use Rattle.draft_model.specs.Flush.{Placed, IsPlaced, block_of, AreWhole, Flushed, SharesRest}
 
 -- a step for which no page is wanted is a step of the update
 abbrev pub StepLaw : Type 0
@@ -24,18 +24,39 @@ FeedLaw = (d : View) (q : List ℕ) (page : PageValue) → are_slots q ≡ true 
 abbrev pub BeginLaw : Type 0
 BeginLaw = (root : ℕ) (page : PageValue) → Begins (begun page) root page
 
--- the masks of a copied page have sixteen bits
-abbrev pub AreMasks : Option Copied → Type 0
-AreMasks None = Unit {0}
-AreMasks (Some c) = (c.searched < 2 ^ 16) × (c.page.modified < 2 ^ 16)
+-- a draft stands for what it stood for, whatever becomes of blocks to which its base does not lead
+abbrev pub KeepLaw : Type 0
+KeepLaw =
+    (old new : Store) (root : ℕ) (a : Tree) (steps : List Step) (d : View)
+    → StandsFor old root a steps d → SameBase old new root → StandsFor new root a steps d
+
+-- the page of its base that a draft wants has the level of its path
+abbrev pub LevelLaw : Type 0
+LevelLaw =
+    (store : Store) (root : ℕ) (a : Tree) (steps : List Step) (d : View) (end q : List ℕ) (b : ℕ) (page : PageValue)
+    → StandsFor store root a steps d → Wants (copies d) end q b → store b ≡ Some page → page.level ≡ length q
+
+-- A page that is fed for a step lies on the way that the step looks at; after the step every live page was accessed, where each was before
+-- but those that were fed for it.
+abbrev pub FeedAccessLaw : Type 0
+FeedAccessLaw =
+    (d : View) (end q : List ℕ) (b : ℕ) (page : PageValue)
+    → IsAccessedBut d end → Wants (copies d) end q b → IsAccessedBut (fed d q page) end
+
+abbrev pub StepAccessLaw : Type 0
+StepAccessLaw = (d : View) (step : Step) → are_slots (target step) ≡ true → IsAccessedBut d (end_of step) → IsAccessed (stepped d step)
 
 -- the flags of every path, those of dropped pages included, are the accesses of the update
 abbrev pub FlagLaw : Type 0
-FlagLaw = (d : View) (p : List ℕ) → AreMasks (d p) → TellsFlags d p (flags_of (d p))
+FlagLaw = (d : View) (p : List ℕ) → TellsFlags d p (flags_of (d p))
 
 -- .. and so are the masks
 abbrev pub MaskLaw : Type 0
 MaskLaw = (d : View) (p : List ℕ) → TellsMasks d p (searched_of (d p)) (modified_of (d p))
+
+-- what the draft wrote at some path the update wrote
+abbrev pub WriteLaw : Type 0
+WriteLaw = (d : View) (b : Bool) → ((b ≡ true) ↔ Wrote d) → TellsWrites d b
 
 -- the fresh paths of the draft are those of the update
 abbrev pub FreshLaw : Type 0
@@ -47,13 +68,3 @@ FlushLaw =
     (d : View) (placed : List Placed) (old new : Store) (root top : ℕ) (a : Tree) (steps : List Step)
     → StandsFor old root a steps d → IsPlaced d placed → Flushed d placed root old new → AreWhole new → block_of placed [] ≡ Some top
     → Holds new top (tree_after a steps) × SharesRest placed old root new top (tree_after a steps)
-
--- .. which they are after one block was written after the other, each once, where none of them is a block of the base
-abbrev pub TurnLaw : Type 0
-TurnLaw =
-    (d : View) (placed : List Placed) (old : Store) (root : ℕ)
-    → are_apart placed ≡ true → AreNew old root placed → Flushed d placed root old (store_after d placed (in_turn placed) old)
-
--- An update has at most 897 fresh paths: `/`, and seven for each of 128 steps.
-abbrev pub FewLaw : Type 0
-FewLaw = (d : View) (paths : List (List ℕ)) → IsOfUpdate d → AreSomeFresh d paths → length paths ≤ 897

@@ -1,7 +1,7 @@
-pub mod Places
 pub mod Views
 pub mod Steps
 pub mod Stands
 pub mod Told
+pub mod Entries
 pub mod Flush
 pub mod Laws

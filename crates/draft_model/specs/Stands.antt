@@ -10,7 +10,7 @@ use Rattle.tree_model.specs.Accesses.{Place, is_among, target, all_reads, all_wr
 use Rattle.tree_model.specs.declared.step.Step.{Step}
 use Rattle.tree_model.specs.declared.step.Reply.{Reply}
 use Rattle.page_codec.specs.Values.{PageValue}
-use Rattle.draft_model.specs.Places.{Store, Holds, block_at, slot_block, has_bit}
+use Rattle.page_places.specs.Places.{Store, Holds, block_at, slot_block, has_bit}
 use Rattle.draft_model.specs.Views.{View, PageCopy, Copies, copies, live, LiveAt, IsUncopied, did_read, did_write, Wants}
 
 -- block b of the base holds the page at q, and below q the tree is as in the base: the draft copied nothing there
@@ -56,6 +56,10 @@ pub record StandsFor (store : Store) (root : ℕ) (a : Tree) (steps : List Step)
   pub base : Holds store root a
   pub kept : list_all (λ step. are_slots (target step)) steps ≡ true
   pub stands : Stands store root a (tree_after a steps) (all_reads a [] steps) (all_writes a steps) d
+
+-- each block to which the root led shows the page that it showed
+abbrev pub SameBase : Store → Store → ℕ → Type 0
+SameBase old new root = (p : List ℕ) (b : ℕ) → block_at old root p ≡ Some b → new b ≡ old b
 
 -- whatever the draft stood for, the answer is that of the tree, and it now stands for one step more
 abbrev pub Runs : View → View → Step → Reply → Type 0

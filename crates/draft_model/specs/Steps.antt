@@ -1,18 +1,17 @@
 -- What each call does to what a draft shows.
-use Rattle.std.specs.Prelude.{◌≡◌, ℕ, ◌^◌, Bool, true, false, not, ◌&&◌, ◌||◌, List, [], ◌∷◌, ◌++◌, length, nat_eq, if◌then◌else◌, Option, Some, None, option_map, is_some, sum_by, slice_set}
+use Rattle.std.specs.Prelude.{ℕ, ◌^◌, Bool, true, false, not, ◌&&◌, ◌||◌, List, [], ◌∷◌, length, nat_eq, if◌then◌else◌, Option, Some, None, option_map, is_some, sum_by, slice_set}
 use Rattle.std.specs.Option.{option_map_or}
 use Rattle.std.specs.Int.RustNames.{bit_or}
 use Rattle.afs_base.specs.Path.{is_prefix}
 use Rattle.tree_model.specs.Children.{path_of}
 use Rattle.tree_model.specs.Trees.{every_slot}
-use Rattle.tree_model.specs.Accesses.{target}
 use Rattle.tree_model.specs.declared.step.Step.{Step}
 use Rattle.tree_model.specs.declared.step.Step.TheVariants.{ReadAt, ListAt, WriteAt, MakeAt, DropAt}
 use Rattle.tree_model.specs.declared.step.Reply.{Reply}
 use Rattle.tree_model.specs.declared.step.Reply.TheVariants.{Bytes, Slots, Done, Absent, Present}
-use Rattle.page_codec.specs.Values.{ReferenceValue, PageValue}
+use Rattle.page_codec.specs.Values.{PageValue}
 use Rattle.page_codec.specs.Blank.{empty_reference, empty_page}
-use Rattle.draft_model.specs.Places.{same, slot_block}
+use Rattle.page_places.specs.Places.{same, slot_block}
 use Rattle.draft_model.specs.Views.{Copied, View, PageCopy, Copies, copies, live}
 
 -- ---- is it there

@@ -1,22 +1,22 @@
 -- What a draft tells of the update that it stands for: the flags, the masks, whether it wrote, and its fresh paths.
-use Rattle.std.specs.Prelude.{◌≡◌, ℕ, ◌<◌, ◌↔◌, Bool, true, false, not, ◌&&◌, ◌||◌, List, [], ◌∷◌, ◌++◌, nat_eq, Option, Some, None}
+use Rattle.std.specs.Prelude.{◌≡◌, ℕ, ◌<◌, ◌↔◌, Bool, true, not, ◌&&◌, ◌||◌, ◌⊎◌, List, [], ◌∷◌, ◌++◌, length, ◌==◌, Option, Some, None}
 use Rattle.std.specs.Option.{option_map_or}
 use Rattle.std.specs.List.{list_any, list_all}
 use Rattle.std.specs.Ordering.{is_lt}
-use Rattle.afs_base.specs.Path.{path_cmp}
+use Rattle.afs_base.specs.Path.{path_cmp, is_prefix}
 use Rattle.afs_base.specs.declared.kind.Kind.{Kind}
 use Rattle.afs_base.specs.declared.kind.Kind.TheVariants.{Data, Slot}
 use Rattle.ref_flags.specs.Flagged.{Flagged, no_flags}
 use Rattle.tree_model.specs.Trees.{Tree, every_slot}
 use Rattle.tree_model.specs.Accesses.{Place, is_among, all_reads, all_writes, fresh_of}
 use Rattle.tree_model.specs.declared.step.Step.{Step}
-use Rattle.draft_model.specs.Places.{Store, same, has_bit}
+use Rattle.page_places.specs.Places.{Store, same, has_bit}
 use Rattle.draft_model.specs.Views.{Copied, View, copies, live, did_write}
 use Rattle.draft_model.specs.Stands.{IsKind, StandsFor}
 
 -- some slot of the mask is set
 abbrev pub is_marked : ℕ → Bool
-is_marked mask = not (nat_eq mask 0)
+is_marked mask = list_any (has_bit mask) every_slot
 
 -- the flags of a path: C where a page was copied there; R and W of its data; S and M where slots were read and written. Who wrote slots
 -- has read them too.
@@ -61,6 +61,10 @@ abbrev pub TellsMasks : View → List ℕ → ℕ → ℕ → Type 0
 TellsMasks d p searched modified =
     (store : Store) (root : ℕ) (a : Tree) (steps : List Step) → StandsFor store root a steps d → MasksTold a steps p searched modified
 
+-- b says whether the update wrote something
+abbrev pub TellsWrites : View → Bool → Type 0
+TellsWrites d b = (store : Store) (root : ℕ) (a : Tree) (steps : List Step) → StandsFor store root a steps d → b ≡ not (length (all_writes a steps) == 0)
+
 -- the draft wrote something at the path
 abbrev pub WroteAt : View → List ℕ → Type 0
 WroteAt d p = (k : Kind) × IsKind k × (did_write d p k ≡ true)
@@ -90,3 +94,17 @@ pub record AreFresh (d : View) (paths : List (List ℕ)) : Type 0 where
 -- these paths are the fresh paths of the update
 abbrev pub TellsFresh : View → List (List ℕ) → Type 0
 TellsFresh d paths = (store : Store) (root : ℕ) (a : Tree) (steps : List Step) → StandsFor store root a steps d → paths ≡ fresh_of a steps
+
+-- ---- pages that were copied and not accessed
+
+-- the update read or wrote something of the page
+abbrev pub is_accessed : Copied → Bool
+is_accessed c = (c.read || c.written) || (is_marked c.searched || is_marked c.page.modified)
+
+-- it did so of each live page
+abbrev pub IsAccessed : View → Type 0
+IsAccessed d = (p : List ℕ) (c : Copied) → d p ≡ Some c → c.live ≡ true → is_accessed c ≡ true
+
+-- .. or the page lies on the way to `end`
+abbrev pub IsAccessedBut : View → List ℕ → Type 0
+IsAccessedBut d end = (p : List ℕ) (c : Copied) → d p ≡ Some c → c.live ≡ true → (is_accessed c ≡ true) ⊎ (is_prefix p end ≡ true)

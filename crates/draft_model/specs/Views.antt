@@ -1,15 +1,11 @@
 -- What a draft shows: at each path the page that was copied there, with its marks.
-use Rattle.std.specs.Prelude.{◌≡◌, ℕ, ◌^◌, Bool, true, false, not, ◌&&◌, ◌||◌, cond, List, [], ◌∷◌, ◌++◌, nat_eq, if◌then◌else◌, Option, Some, None, option_map, is_some}
+use Rattle.std.specs.Prelude.{◌≡◌, ℕ, Bool, true, false, List, [], ◌∷◌, ◌++◌, Option, Some, None, option_map}
 use Rattle.std.specs.Option.{option_map_or}
-use Rattle.std.specs.Int.RustNames.{bit_or}
 use Rattle.afs_base.specs.Path.{is_prefix}
 use Rattle.afs_base.specs.declared.kind.Kind.{Kind}
 use Rattle.afs_base.specs.declared.kind.Kind.TheVariants.{Data, Slot}
-use Rattle.tree_model.specs.Children.{path_of}
-use Rattle.tree_model.specs.declared.step.Step.{Step}
-use Rattle.tree_model.specs.declared.step.Step.TheVariants.{ReadAt, ListAt, WriteAt, MakeAt, DropAt}
 use Rattle.page_codec.specs.Values.{PageValue}
-use Rattle.draft_model.specs.Places.{has_bit, slot_block}
+use Rattle.page_places.specs.Places.{has_bit, slot_block}
 
 -- A page that was copied or made. `live` is false once it, or a page above it, was dropped; its marks stay. `page.modified` is the mask
 -- of the slots that the update wrote, `searched` that of the slots that it read; `read` and `written` speak of the data.
@@ -69,15 +65,7 @@ did_read d p k = option_map_or (λ c. reads_kind c k) (d p) false
 abbrev pub did_write : View → List ℕ → Kind → Bool
 did_write d p k = option_map_or (λ c. writes_kind c k) (d p) false
 
--- the last page on a step's way that the step looks into: a make and a drop do not look into their own page
-abbrev pub end_of : Step → List ℕ
-end_of (ReadAt p) = p
-end_of (ListAt p) = p
-end_of (WriteAt p bytes) = p
-end_of (MakeAt c) = c.0
-end_of (DropAt c) = c.0
-
--- the page q of the base, in block b, is the shallowest on the way to `end` that is not copied: the page above it is live and names it
+-- the page q of the base, in block b, is on the way to `end` and not copied, while the page above it is live and names it
 pub record Wants (h : Copies) (end q : List ℕ) (b : ℕ) : Type 0 where
   pub above : List ℕ
   pub last : ℕ

@@ -4,5 +4,6 @@
 mod laws;
 
 pub use laws::{
-    begin_law, feed_law, few_law, flag_law, flush_law, fresh_law, mask_law, step_law, turn_law,
+    begin_law, feed_access_law, feed_law, flag_law, flush_law, fresh_law, keep_law, level_law,
+    mask_law, step_access_law, step_law, write_law,
 };
