@@ -1,22 +1,18 @@
 -- What a change of the entries does to the pages that they show.
 use Rattle.std.proofs.Common.{◌≡◌, ℕ, ◌<◌, Bool, true, false, cond, List, [], ◌∷◌, ◌++◌, map, ◌⊎◌, inl, inr, refl, sym, ap, subst, ◌∙◌, Option, Some, None, option_map, is_some, length, arith, length-append}
 use Rattle.std.specs.Option.{option_map_or}
+use Rattle.std.specs.Map.{keys_of}
 use Rattle.std.specs.Map.Calls.{RetainsPairs}
 use Rattle.afs_base.specs.Path.{is_prefix}
-use Rattle.tree_model.proofs.Paths.{told, never, false_if, same_self, same_is}
-use Rattle.draft_model.specs.Places.{same}
+use Rattle.tree_model.proofs.Paths.{told, never, same_is}
+use Rattle.page_places.specs.Places.{same}
 use Rattle.draft_model.specs.Views.{Copied, View, PageCopy, copy_of, copies, live}
+use Rattle.draft_model.specs.Entries.{Entry, shown}
+use Rattle.draft_model.proofs.Entries.{same_sym}
 use Rattle.draft_tree.specs.Marking.{taken_away}
-use Rattle.draft_tree.specs.Pages.{Entry, shown, IsShort, changed, put, cut_below}
+use Rattle.draft_tree.specs.Pages.{IsShort, changed, put, cut_below}
 
 -- ---- one path
-
-pub same_sym : (p q : List ℕ) → same p q ≡ same q p
-same_sym p q = by (told (same q p))
-  where
-    by : (same q p ≡ true) ⊎ (same q p ≡ false) → same p q ≡ same q p
-    by (inl e) = ap (λ x. same x q) (sym (same_is q p e)) ∙ same_self q ∙ sym e
-    by (inr e) = false_if (same p q) (λ h. sym e ∙ ap (same q) (same_is p q h) ∙ same_self q) ∙ sym e
 
 -- a page was written over at q
 pub changed_some : (d : View) (q p : List ℕ) (f : Copied → Copied) (c w : Copied) → d q ≡ Some c → w ≡ f c
@@ -94,6 +90,10 @@ map_pairs T g f h (e ∷ es) kept r =
     let a = h e.0 e.1 r.0 r.1 r.2 r.4 in
     let rest = map_pairs T g f h es r.3 (subst (λ u. RetainsPairs T u es r.3) a.2 r.5) in
     r.6 ∙ ap (λ b. cond b ((e.0, r.1) ∷ r.3) r.3) a.0 ∙ (λ i. (e.0, a.1 i) ∷ rest i)
+
+pub keys_map : (g : List ℕ → Copied → Copied) (es : List Entry) → keys_of (map (λ e. (e.0, g e.0 e.1)) es) ≡ keys_of es
+keys_map g [] = refl
+keys_map g (e ∷ es) = ap (λ (ps : List (List ℕ)). e.0 ∷ ps) (keys_map g es)
 
 pub shown_map : (g : List ℕ → Copied → Copied) (es : List Entry) (p : List ℕ) → shown (map (λ e. (e.0, g e.0 e.1)) es) p ≡ option_map (g p) (shown es p)
 shown_map g [] p = refl

@@ -5,13 +5,13 @@ use Rattle.std.specs.Int.Bits.{or_zero_r}
 use Rattle.std.proofs.lemmas.List.Sums.{sum_by_push}
 use Rattle.afs_base.specs.Path.{is_prefix}
 use Rattle.tree_model.specs.Children.{path_of}
-use Rattle.tree_model.specs.Trees.{slots_below}
+use Rattle.tree_model.specs.Trees.{numbers_below}
 use Rattle.tree_model.specs.declared.step.Step.{Step}
 use Rattle.tree_model.specs.declared.step.Step.TheVariants.{ReadAt, ListAt, WriteAt, MakeAt, DropAt}
 use Rattle.tree_model.proofs.Paths.{told, false_if, same_is, prefix_self, child_above}
 use Rattle.page_codec.specs.Values.{PageValue}
 use Rattle.page_codec.specs.Blank.{empty_reference}
-use Rattle.draft_model.specs.Places.{same}
+use Rattle.page_places.specs.Places.{same}
 use Rattle.draft_model.specs.Views.{Copied, View, Copies, copies}
 use Rattle.draft_model.specs.Steps.{makes, is_there, there_bit, way_bit, is_made, taken, made, stepped}
 use Rattle.draft_model.proofs.Facts.{or_false, and_true, and_false}
@@ -300,15 +300,15 @@ dropped_done d x p acts_now =
 -- ---- the slots of a list
 
 abbrev pub bits_below : Copies → List ℕ → ℕ → ℕ
-bits_below h p n = sum_by (there_bit h p) (slots_below n)
+bits_below h p n = sum_by (there_bit h p) (numbers_below n)
 
 pub bits_none : (h : Copies) (p : List ℕ) → bits_below h p 0 ≡ 0
-unfolding slots_below
+unfolding numbers_below
 bits_none h p = refl
 
 pub bits_more : (h : Copies) (p : List ℕ) (n : ℕ) → bits_below h p (suc n) ≡ bits_below h p n + there_bit h p n
-unfolding slots_below
-bits_more h p n = sum_by_push (there_bit h p) (slots_below n) n
+unfolding numbers_below
+bits_more h p n = sum_by_push (there_bit h p) (numbers_below n) n
 
 bit_le : (h : Copies) (p : List ℕ) (n : ℕ) → there_bit h p n ≤ 2 ^ n
 bit_le h p n = by (is_there h (p, n))

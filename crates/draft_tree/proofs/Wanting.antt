@@ -3,7 +3,7 @@ use Rattle.std.proofs.Common.{◌≡◌, ℕ, zero, suc, ◌<◌, Bool, true, fa
 use Rattle.std.specs.Cmp.{first_so, second_so}
 use Rattle.afs_base.specs.Path.{is_prefix}
 use Rattle.tree_model.proofs.Paths.{never, not_true}
-use Rattle.draft_model.specs.Places.{slot_block}
+use Rattle.page_places.specs.Places.{slot_block}
 use Rattle.draft_model.specs.Views.{PageCopy, Copies, live, Wants, WantsNone}
 use Rattle.draft_tree.specs.Pages.{wanted_of, wanted_block}
 

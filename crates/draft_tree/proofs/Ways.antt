@@ -5,7 +5,7 @@ use Rattle.std.specs.Int.Bits.{or_zero_r}
 use Rattle.std.proofs.lemmas.Bool.{cases_lt}
 use Rattle.afs_base.specs.Path.{is_prefix}
 use Rattle.tree_model.proofs.Paths.{told, never, same_self, same_is, prefix_told}
-use Rattle.draft_model.specs.Places.{same}
+use Rattle.page_places.specs.Places.{same}
 use Rattle.draft_model.specs.Views.{Copied, View}
 use Rattle.draft_model.specs.Steps.{way_bit}
 use Rattle.draft_tree.specs.Marking.{searched_more}

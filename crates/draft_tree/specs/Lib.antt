@@ -1,4 +1,3 @@
-pub mod DraftLaws
 pub mod Drafts
 pub mod Marking
 pub mod Pages

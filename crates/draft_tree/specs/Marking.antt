@@ -1,11 +1,11 @@
--- What each mark does to one copied page.
-use Rattle.std.specs.Prelude.{ℕ, ◌^◌, Bool, false, not, ◌&&◌, ◌||◌, if◌then◌else◌, List, slice_set}
-use Rattle.std.specs.List.{list_any}
+-- What each change makes of one copied page.
+use Rattle.std.specs.Prelude.{◌≡◌, ℕ, ◌^◌, false, not, ◌&&◌, ◌||◌, if◌then◌else◌, List, slice_set}
 use Rattle.std.specs.Int.RustNames.{bit_or}
-use Rattle.tree_model.specs.Trees.{every_slot}
 use Rattle.page_codec.specs.Blank.{empty_reference}
-use Rattle.draft_model.specs.Places.{has_bit}
 use Rattle.draft_model.specs.Views.{Copied}
+use Rattle.draft_tree.specs.Drafts.{merged_page}
+use Rattle.draft_tree.specs.declared.change.Change.{Change}
+use Rattle.draft_tree.specs.declared.change.Change.TheVariants.{Search, SearchAll, Read, Write, MakeChild, DropChild, Merge}
 
 -- these slots were read, if the page is there
 abbrev pub searched_more : ℕ → Copied → Copied
@@ -56,6 +56,22 @@ child_dropped s c =
 abbrev pub taken_away : Copied → Copied
 taken_away c = record { live = false; read = c.read; written = c.written; searched = c.searched; page = c.page }
 
--- the data or some slot was written
-abbrev pub is_written : Copied → Bool
-is_written c = c.written || list_any (has_bit c.page.modified) every_slot
+-- the page after a change
+abbrev pub after_change : Change → Copied → Copied
+after_change (Search s) c = searched_more (2 ^ s) c
+after_change SearchAll c = searched_all c
+after_change Read c = data_read c
+after_change (Write bytes) c = data_written bytes c
+after_change (MakeChild s) c = child_made s c
+after_change (DropChild s) c = child_dropped s c
+after_change (Merge page) c = merged_page page c
+
+-- a merged page is of the level of the page that takes it over
+abbrev pub FitsPage : Change → Copied → Type 0
+FitsPage (Search s) c = Unit {0}
+FitsPage SearchAll c = Unit {0}
+FitsPage Read c = Unit {0}
+FitsPage (Write bytes) c = Unit {0}
+FitsPage (MakeChild s) c = Unit {0}
+FitsPage (DropChild s) c = Unit {0}
+FitsPage (Merge page) c = c.page.level ≡ page.level

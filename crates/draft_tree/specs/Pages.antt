@@ -1,21 +1,11 @@
 -- The pages of a draft as the list of its entries, in the order of their paths.
-use Rattle.std.specs.Prelude.{◌≡◌, ℕ, ◌<◌, Bool, false, not, ◌&&◌, if◌then◌else◌, List, [], ◌∷◌, ◌++◌, map, filter, length, Option, Some, None, option_map, is_some}
-use Rattle.std.specs.List.{list_any}
-use Rattle.std.specs.Map.{lookup}
-use Rattle.std.specs.BTreeMap.{is_at}
-use Rattle.afs_base.specs.Path.{path_cmp, is_prefix}
-use Rattle.draft_model.specs.Places.{same, slot_block}
+use Rattle.std.specs.Prelude.{◌≡◌, ℕ, ◌<◌, Bool, false, not, ◌&&◌, if◌then◌else◌, List, [], ◌∷◌, ◌++◌, length, Option, Some, None, option_map, is_some}
+use Rattle.afs_base.specs.Path.{is_prefix}
+use Rattle.page_places.specs.Places.{same, slot_block}
 use Rattle.draft_model.specs.Views.{Copied, View, PageCopy, Copies, live}
 use Rattle.draft_model.specs.Steps.{way_bit}
-use Rattle.draft_tree.specs.Marking.{searched_more, taken_away, is_written}
-
--- a page and its path
-abbrev pub Entry : Type 0
-Entry = List ℕ × Copied
-
--- the page that stands at each path
-abbrev pub shown : List Entry → View
-shown pages p = lookup (is_at (path_cmp p)) pages
+use Rattle.draft_model.specs.Entries.{Entry, shown}
+use Rattle.draft_tree.specs.Marking.{searched_more, taken_away}
 
 -- nothing stands at a path of more than seven slots
 abbrev pub IsShort : List Entry → Type 0
@@ -44,15 +34,3 @@ wanted_of there (Some c) s = if c.live && not there then slot_block c.page s els
 
 abbrev pub wanted_block : Copies → List ℕ → ℕ → Option ℕ
 wanted_block h p s = wanted_of (live h (p ++ s ∷ [])) (h p) s
-
--- something was written at or below the path
-abbrev pub is_touched : List Entry → List ℕ → Bool
-is_touched pages q = list_any (λ e. is_prefix q e.0 && is_written e.1) pages
-
--- the page of an entry is there, and something was written at or below it
-abbrev pub is_fresh : List Entry → Entry → Bool
-is_fresh pages e = e.1.live && is_touched pages e.0
-
--- the fresh paths, in order
-abbrev pub fresh_paths : List Entry → List (List ℕ)
-fresh_paths pages = map (λ e. e.0) (filter (is_fresh pages) pages)

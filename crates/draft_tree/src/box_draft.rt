@@ -1,28 +1,21 @@
 ghost use Rattle.std.specs.Prelude.{◌≡◌, ◌+◌, ◌*◌, ◌<◌, ◌≤◌, [], true, length, IfOk};
-ghost use Rattle.draft_model.specs.Views.{copies, end_of, live};
-ghost use Rattle.draft_tree.specs.DraftLaws.{HasLevels-prop};
-ghost use Rattle.draft_tree.specs.Drafts.{HasLevels, IsWrittenOnWays};
-ghost use Rattle.draft_tree.specs.Pages.{shown, fresh_paths};
+ghost use Rattle.std.specs.Map.{keys_of};
+ghost use Rattle.draft_model.specs.Told.{are_rising};
+ghost use Rattle.draft_model.specs.Views.{copies, live};
+ghost use Rattle.draft_tree.specs.Drafts.{HasLevels, HasLevels-prop};
+ghost use Rattle.draft_model.specs.Entries.{shown, fresh_paths};
 
+use crate::change::Change;
 use crate::copied_page::CopiedPage;
-use crate::draft::Draft;
+use crate::draft::{Draft, MAX_FRESH};
 use crate::pages::Pages;
 use crate::slot_marks::SlotMarks;
-use afs_base::{BlockNo, Path};
+use afs_base::{BlockNo, Memory, Path};
+use arrayvec::ArrayVec;
 use page_codec::{Page, VersionPage};
 use ref_flags::Flags;
 use std::alloc::Global;
-use tree_model::{Memory, Reply, Step};
-
-/// The last page that a step looks into on its way: a make and a drop do not look into their own page.
-fn end_of(step: &Step) -> Path
-    ensures { result ≡ end_of step.now }
-{
-    match step {
-        Step::ReadAt { at } | Step::ListAt { at } | Step::WriteAt { at, .. } => *at,
-        Step::MakeAt { at } | Step::DropAt { at } => at.above(),
-    }
-}
+use tree_model::{Reply, Step};
 
 /// A draft that keeps its pages in memory, one by one.
 #[derive(Drop)]
@@ -38,11 +31,11 @@ pub struct BoxDraft {
     ghost some: { 0 < object },
     ghost most: { count ≤ 128 },
     ghost few: { fed ≤ 7 },
-    ghost room: { length pages ≤ 1 + 8 * count + fed },
+    // A step adds at most the page that it makes, before which at most six pages were fed; else seven.
+    ghost room: { length pages ≤ 1 + 7 * count + fed },
+    ghost order: { are_rising (keys_of pages) ≡ true },
     ghost top: { live (copies (shown pages)) [] ≡ true },
     ghost levels: { HasLevels (shown pages) } by { HasLevels-prop (shown pages) },
-    // Each step writes on the way to its path alone.
-    ghost ways: { ∥ IsWrittenOnWays (shown pages) count ∥₁ },
 }
 
 impl BoxDraft {
@@ -53,11 +46,13 @@ impl BoxDraft {
     pub fn begin(alloc: Global, at: BlockNo, version: &VersionPage) -> Result<BoxDraft, Memory>
         requires { 0 < at }
         ensures view { IfOk result (λ d. ⟦<BoxDraft as Draft>⟧.view d ≡ begun version.now.page) }
-        ensures begins { IfOk result (λ d. Begins (⟦<BoxDraft as Draft>⟧.view d) at version.now.page) }
+        ensures begins { IfOk result
+            (λ d. Begins (⟦<BoxDraft as Draft>⟧.view d) at version.now.page) }
         ensures root { IfOk result (λ d. ⟦<BoxDraft as Draft>⟧.root_of d ≡ at) }
         ensures object { IfOk result (λ d. ⟦<BoxDraft as Draft>⟧.object_of d ≡ version.now.object) }
         ensures serial { IfOk result (λ d. ⟦<BoxDraft as Draft>⟧.serial_of d ≡ version.now.serial) }
-        ensures count { IfOk result (λ d. (⟦<BoxDraft as Draft>⟧.count_of d ≡ 0) × (⟦<BoxDraft as Draft>⟧.fed_of d ≡ 0)) }
+        ensures count { IfOk result (λ d. (⟦<BoxDraft as Draft>⟧.count_of d ≡ 0)
+            × (⟦<BoxDraft as Draft>⟧.fed_of d ≡ 0)) }
     {
         let mut pages = Pages::new(alloc);
         pages.put(&Path::root(), CopiedPage::fed(&version.page))?;
@@ -118,6 +113,10 @@ impl Draft for BoxDraft {
         }
     }
 
+    fn list_fresh(&self, into: &mut ArrayVec<Path, MAX_FRESH>) {
+        self.pages.list_fresh(into);
+    }
+
     fn flags(&self, at: &Path) -> Flags {
         self.pages.flags(at)
     }
@@ -137,7 +136,7 @@ impl Draft for BoxDraft {
     }
 
     fn need(&self, step: &Step) -> Option<(Path, BlockNo)> {
-        self.pages.need(&end_of(step))
+        self.pages.need(&step.end())
     }
 
     fn feed(&mut self, at: &Path, page: &Page) -> Result<(), Memory> {
@@ -154,7 +153,7 @@ impl Draft for BoxDraft {
     }
 
     fn take_merged(&mut self, at: &Path, merged: &Page) {
-        self.pages.merge(at, merged);
+        self.pages.change(at, &Change::Merge(*merged));
     }
 
     fn rebase(&mut self, root: BlockNo, serial: u64) {
@@ -162,7 +161,7 @@ impl Draft for BoxDraft {
         self.serial = serial;
     }
 
-    ghost use Rattle.draft_tree.specs.DraftLaws.{few_fresh};
+    ghost use Rattle.draft_model.proofs.Entries.{all_fresh, few_fresh};
 
     ghost top = { λ d _. d.top };
 
@@ -170,5 +169,7 @@ impl Draft for BoxDraft {
 
     ghost most = { λ d _. d.most };
 
-    ghost few = { λ d _. few_fresh (shown d.pages) d.count d.ways };
+    ghost are_fresh = { λ d _. all_fresh d.pages d.order };
+
+    ghost few = { λ d _. few_fresh d.pages d.count d.fed d.room d.most d.few };
 }

@@ -1,15 +1,13 @@
-ghost use Rattle.std.specs.Prelude.{◌≡◌, ◌^◌, ◌≤◌, Some, true, if◌then◌else◌};
-ghost use Rattle.std.specs.List.{list_any};
-ghost use Rattle.tree_model.specs.Trees.{every_slot};
-ghost use Rattle.tree_model.specs.declared.step.Reply.TheVariants.{Done, Absent};
-ghost use Rattle.draft_model.specs.Laws.{AreMasks};
-ghost use Rattle.draft_model.specs.Places.{has_bit, slot_block};
+ghost use Rattle.std.specs.Prelude.{◌≡◌, ◌^◌, ◌≤◌, Some, true};
+ghost use Rattle.page_places.specs.Places.{slot_block};
 ghost use Rattle.draft_model.specs.Steps.{blank, data_reply, fed_page};
-ghost use Rattle.draft_model.specs.Told.{flags_of};
+ghost use Rattle.draft_model.specs.Told.{flags_of, is_marked};
 ghost use Rattle.draft_model.specs.Views.{copy_of};
 ghost use Rattle.draft_tree.specs.Drafts.{merged_page};
-ghost use Rattle.draft_tree.specs.Marking.{searched_more, searched_all, data_read, data_written, child_made, child_dropped, taken_away, is_written};
+ghost use Rattle.draft_model.specs.Entries.{is_written};
+ghost use Rattle.draft_tree.specs.Marking.{searched_more, searched_all, data_read, data_written, child_made, child_dropped, taken_away, after_change, FitsPage};
 
+use crate::change::Change;
 use crate::slot_marks::SlotMarks;
 use afs_base::{BlockNo, PageData, Slot};
 use page_codec::{Page, Reference};
@@ -19,7 +17,7 @@ use tree_model::Reply;
 
 /// Whether some bit of the mask is set.
 fn has_any(mask: u16) -> bool
-    ensures { result ≡ list_any (has_bit mask) every_slot }
+    ensures { result ≡ is_marked mask }
 {
     mask != 0
 }
@@ -40,9 +38,23 @@ impl Model for CopiedPage {
 
     ghost Value = { Copied };
 
-    ghost view = { λ c. record { live = c.live; read = c.read; written = c.written; searched = c.searched; page = c.page } };
+    ghost view = { λ c. record {
+      live = c.live;
+      read = c.read;
+      written = c.written;
+      searched =
+          c.searched;
+      page = c.page;
+    } };
 
-    ghost inverse = { λ c. record { live = c.live; read = c.read; written = c.written; searched = c.searched; page = c.page } };
+    ghost inverse = { λ c. record {
+      live = c.live;
+      read = c.read;
+      written = c.written;
+      searched =
+          c.searched;
+      page = c.page;
+    } };
 }
 
 impl CopiedPage {
@@ -64,7 +76,9 @@ impl CopiedPage {
     /// A page that was just made: no data and no slots, all of it written. `read` says that the data of a page at its path was read before.
     pub fn made(level: u8, read: bool) -> Self
         requires { level ≤ 7 }
-        ensures { result ≡ record { live = true; read = read; written = true; searched = 65535; page = blank level } }
+        ensures { result
+            ≡ record
+            { live = true; read = read; written = true; searched = 65535; page = blank level } }
     {
         let mut page = Page::empty(level);
         page.modified = u16::MAX;
@@ -93,8 +107,35 @@ impl CopiedPage {
         reference.block
     }
 
+    /// The answer to a read: the data, or that the page is not there.
+    pub fn data(&self) -> Reply
+        ensures { result ≡ data_reply (Some (copy_of self.now)) }
+    {
+        if self.live {
+            Reply::Bytes(self.page.bytes)
+        } else {
+            Reply::Absent
+        }
+    }
+
+    /// Does a change. A merged page is of the level of this one.
+    pub fn change(&mut self, change: &Change)
+        requires { FitsPage change.now self.old }
+        ensures { self.new ≡ after_change change.now self.old }
+    {
+        match change {
+            Change::Search(slot) => self.search(*slot),
+            Change::SearchAll => self.search_all(),
+            Change::Read => self.read(),
+            Change::Write(bytes) => self.write(bytes),
+            Change::MakeChild(slot) => self.make_child(*slot),
+            Change::DropChild(slot) => self.drop_child(*slot),
+            Change::Merge(page) => self.merge(page),
+        }
+    }
+
     /// Marks a slot as read, if the page is there.
-    pub fn search(&mut self, slot: Slot)
+    fn search(&mut self, slot: Slot)
         ensures { self.new ≡ searched_more (2 ^ slot) self.old }
     {
         if self.live {
@@ -103,7 +144,7 @@ impl CopiedPage {
     }
 
     /// Marks every slot as read, if the page is there.
-    pub fn search_all(&mut self)
+    fn search_all(&mut self)
         ensures { self.new ≡ searched_all self.old }
     {
         if self.live {
@@ -111,40 +152,34 @@ impl CopiedPage {
         }
     }
 
-    /// Gives the data, and marks it as read unless it was written before; or else the page is not there.
-    pub fn read(&mut self) -> Reply
-        ensures page { self.new ≡ data_read self.old }
-        ensures reply { result ≡ data_reply (Some (copy_of self.old)) }
+    /// Marks the data as read, if the page is there and its data was not written before.
+    fn read(&mut self)
+        ensures { self.new ≡ data_read self.old }
     {
-        if !self.live {
-            return Reply::Absent;
+        if self.live {
+            self.read |= !self.written;
         }
-        self.read |= !self.written;
-        Reply::Bytes(self.page.bytes)
     }
 
-    /// Replaces the data and marks it as written; or else the page is not there.
-    pub fn write(&mut self, bytes: &PageData) -> Reply
-        ensures page { self.new ≡ data_written bytes.now self.old }
-        ensures reply { result ≡ (if self.old.live then Done else Absent) }
+    /// Replaces the data and marks it as written, if the page is there.
+    fn write(&mut self, bytes: &PageData)
+        ensures { self.new ≡ data_written bytes.now self.old }
     {
-        if !self.live {
-            return Reply::Absent;
+        if self.live {
+            self.written = true;
+            self.page.bytes = *bytes;
         }
-        self.written = true;
-        self.page.bytes = *bytes;
-        Reply::Done
     }
 
     /// Marks that a page was made in a slot.
-    pub fn make_child(&mut self, slot: Slot)
+    fn make_child(&mut self, slot: Slot)
         ensures { self.new ≡ child_made slot self.old }
     {
         self.page.modified |= 1 << slot.get();
     }
 
     /// Empties a slot, and marks that its page was dropped.
-    pub fn drop_child(&mut self, slot: Slot)
+    fn drop_child(&mut self, slot: Slot)
         ensures { self.new ≡ child_dropped slot self.old }
     {
         let number = slot.get();
@@ -160,7 +195,7 @@ impl CopiedPage {
     }
 
     /// Takes over the slots and the data of a merged page of the same level.
-    pub fn merge(&mut self, merged: &Page)
+    fn merge(&mut self, merged: &Page)
         requires { self.old.page.level ≡ merged.now.level }
         ensures { self.new ≡ merged_page merged.now self.old }
     {
@@ -178,8 +213,7 @@ impl CopiedPage {
 
     /// The marks as flags.
     pub fn flags(&self) -> Flags
-        ensures flags { result ≡ flags_of (Some self.now) }
-        ensures masks { AreMasks (Some self.now) }
+        ensures { result ≡ flags_of (Some self.now) }
     {
         let mut flags = Flags::none().see(Mark::Copy);
         if self.read {
@@ -188,10 +222,10 @@ impl CopiedPage {
         if self.written {
             flags = flags.see(Mark::Write);
         }
-        if self.searched != 0 {
+        if has_any(self.searched) {
             flags = flags.see(Mark::Search);
         }
-        if self.page.modified != 0 {
+        if has_any(self.page.modified) {
             flags = flags.see(Mark::Modify);
         }
         flags

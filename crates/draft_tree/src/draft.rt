@@ -1,16 +1,22 @@
 ghost use Rattle.std.specs.Prelude.{◌≡◌, ℕ, ◌+◌, ◌<◌, ◌≤◌, ◌↔◌, List, [], length, slice_get, Some, IsTrue, true, false, IfOk, OnOk, OnErr, MatchOption};
+ghost use Rattle.tree_model.specs.Accesses.{end_of};
 ghost use Rattle.tree_model.specs.Trees.{IsMake};
-ghost use Rattle.draft_model.specs.Views.{View, copies, live, end_of, Wants, WantsNone, IsWanted};
+ghost use Rattle.draft_model.specs.Views.{View, copies, live, Wants, WantsNone, IsWanted};
 ghost use Rattle.draft_model.specs.Steps.{stepped, reply_in, fed};
 ghost use Rattle.draft_model.specs.Stands.{Runs, Feeds};
-ghost use Rattle.draft_model.specs.Told.{flags_of, searched_of, modified_of, Wrote, AreFresh, TellsFlags, TellsMasks, TellsFresh};
-ghost use Rattle.draft_tree.specs.Drafts.{live_page, CanMerge, merged_at, HasLevels, HasFewFresh};
+ghost use Rattle.draft_model.specs.Told.{flags_of, searched_of, modified_of, Wrote, AreFresh, TellsFlags, TellsMasks, TellsWrites, TellsFresh};
+ghost use Rattle.draft_tree.specs.declared.draft.TheConstants.{MAX_FRESH};
+ghost use Rattle.draft_tree.specs.Drafts.{live_page, CanMerge, merged_at, HasLevels};
 
 use crate::slot_marks::SlotMarks;
-use afs_base::{BlockNo, Path};
+use afs_base::{BlockNo, Memory, Path};
+use arrayvec::ArrayVec;
 use page_codec::Page;
 use ref_flags::Flags;
-use tree_model::{Memory, Reply, Step};
+use tree_model::{Reply, Step};
+
+/// The most fresh paths of a draft: `/`, seven for each of 128 steps, and seven.
+pub const MAX_FRESH: usize = 904;
 
 /// An update at work on a version: the pages that it accessed are copied from that version, its base, as they are needed; all other
 /// pages are the base's own.
@@ -36,7 +42,7 @@ pub trait Draft {
     /// How many pages were fed since the draft began or since its last step.
     ghost fed_of: { Self → ℕ };
 
-    /// The fresh paths, in order.
+    /// The fresh paths, in order: those of live pages on or below which something was written.
     ghost fresh_of: { Self → List (List ℕ) };
 
     /// Whether calls may be made. Of several drafts in one value, one has to be picked first.
@@ -68,13 +74,13 @@ pub trait Draft {
     /// Whether some step wrote anything: data, or a slot.
     fn has_writes(&self) -> bool
         requires { is_ready self.now }
-        ensures { IsTrue result ↔ Wrote (view self.now) };
+        ensures value { IsTrue result ↔ Wrote (view self.now) }
+        ensures tells { TellsWrites (view self.now) result };
 
     /// How many fresh paths there are: live pages on or below which something was written, dropped pages below them included.
     fn fresh_count(&self) -> u32
         requires { is_ready self.now }
         ensures count { result ≡ length (fresh_of self.now) }
-        ensures fresh { AreFresh (view self.now) (fresh_of self.now) }
         ensures tells { TellsFresh (view self.now) (fresh_of self.now) };
 
     /// The fresh path at place k, from 0. Paths are ordered as lists.
@@ -82,6 +88,12 @@ pub trait Draft {
         requires ready { is_ready self.now }
         requires below { k < length (fresh_of self.now) }
         ensures { slice_get (fresh_of self.now) k ≡ Some result };
+
+    /// Lists the fresh paths, in order.
+    fn list_fresh(&self, into: &mut ArrayVec<Path, MAX_FRESH>)
+        requires ready { is_ready self.now }
+        requires empty { into.old.items ≡ [] }
+        ensures { into.new.items ≡ fresh_of self.now };
 
     /// The marks of a path, those of dropped pages too; none where no page was copied or made.
     fn flags(&self, at: &Path) -> Flags
@@ -104,7 +116,7 @@ pub trait Draft {
             ((result ≡ false) × (into.new ≡ into.old))
             (λ page. (result ≡ true) × (into.new ≡ page)) };
 
-    /// The shallowest page of the base on the step's way that is not copied yet, and its block; none exactly where no page is wanted.
+    /// A page of the base on the step's way that is not copied yet, below one that is, and its block; none exactly where no page is wanted.
     fn need(&self, step: &Step) -> Option<(Path, BlockNo)>
         requires { is_ready self.now }
         ensures { MatchOption result
@@ -121,9 +133,12 @@ pub trait Draft {
         ensures fed { OnOk result (view self.new ≡ fed (view self.old) at.now page.now) }
         ensures feeds { OnOk result (Feeds (view self.old) (view self.new) at.now page.now) }
         ensures more { OnOk result (fed_of self.new ≡ fed_of self.old + 1) }
-        ensures err { OnErr result ((view self.new ≡ view self.old) × (fed_of self.new ≡ fed_of self.old)) }
+        ensures err { OnErr result
+            ((view self.new ≡ view self.old) × (fed_of self.new ≡ fed_of self.old)) }
         ensures count { count_of self.new ≡ count_of self.old }
-        ensures same { (root_of self.new ≡ root_of self.old) × (object_of self.new ≡ object_of self.old) × (serial_of self.new ≡ serial_of self.old) }
+        ensures same { (root_of self.new ≡ root_of self.old)
+            × (object_of self.new ≡ object_of self.old)
+            × (serial_of self.new ≡ serial_of self.old) }
         ensures ready { is_ready self.new };
 
     /// Does a step that needs no page, and answers as the tree does. There are at most 128 steps, and before a make at most six pages are
@@ -138,9 +153,13 @@ pub trait Draft {
         ensures runs { IfOk result (λ reply. Runs (view self.old) (view self.new) step.now reply) }
         ensures count { OnOk result (count_of self.new ≡ count_of self.old + 1) }
         ensures fed { OnOk result (fed_of self.new ≡ 0) }
-        ensures err { OnErr result ((view self.new ≡ view self.old) × (count_of self.new ≡ count_of self.old) × (fed_of self.new ≡ fed_of self.old)) }
+        ensures err { OnErr result ((view self.new ≡ view self.old)
+            × (count_of self.new ≡ count_of self.old)
+            × (fed_of self.new ≡ fed_of self.old)) }
         ensures cause { OnErr result (IsMake step.now) }
-        ensures same { (root_of self.new ≡ root_of self.old) × (object_of self.new ≡ object_of self.old) × (serial_of self.new ≡ serial_of self.old) }
+        ensures same { (root_of self.new ≡ root_of self.old)
+            × (object_of self.new ≡ object_of self.old)
+            × (serial_of self.new ≡ serial_of self.old) }
         ensures ready { is_ready self.new };
 
     /// Gives the page that is live at a path the slots and the data of a merged page of the same level. Its mask and its marks stay, and so
@@ -149,8 +168,11 @@ pub trait Draft {
         requires ready { is_ready self.old }
         requires there { CanMerge (view self.old) at.now merged.now }
         ensures merged { view self.new ≡ merged_at (view self.old) at.now merged.now }
-        ensures count { (count_of self.new ≡ count_of self.old) × (fed_of self.new ≡ fed_of self.old) }
-        ensures same { (root_of self.new ≡ root_of self.old) × (object_of self.new ≡ object_of self.old) × (serial_of self.new ≡ serial_of self.old) }
+        ensures count { (count_of self.new ≡ count_of self.old)
+            × (fed_of self.new ≡ fed_of self.old) }
+        ensures same { (root_of self.new ≡ root_of self.old)
+            × (object_of self.new ≡ object_of self.old)
+            × (serial_of self.new ≡ serial_of self.old) }
         ensures ready { is_ready self.new };
 
     /// From here on the base is the version with this serial whose page lies in block `root`, which is not 0. Nothing else changes.
@@ -160,7 +182,8 @@ pub trait Draft {
         ensures root { root_of self.new ≡ root }
         ensures serial { serial_of self.new ≡ serial }
         ensures view { view self.new ≡ view self.old }
-        ensures count { (count_of self.new ≡ count_of self.old) × (fed_of self.new ≡ fed_of self.old) }
+        ensures count { (count_of self.new ≡ count_of self.old)
+            × (fed_of self.new ≡ fed_of self.old) }
         ensures object { object_of self.new ≡ object_of self.old }
         ensures ready { is_ready self.new };
 
@@ -173,6 +196,9 @@ pub trait Draft {
     /// A draft has at most 128 steps.
     ghost most: { (d : Self) → is_ready d → count_of d ≤ 128 };
 
-    /// The fresh paths are at most `/` and seven for each step.
-    ghost few: { (d : Self) → is_ready d → HasFewFresh (view d) (count_of d) };
+    /// The fresh paths are those of the live pages on or below which something was written, in order.
+    ghost are_fresh: { (d : Self) → is_ready d → AreFresh (view d) (fresh_of d) };
+
+    /// The fresh paths are at most `/`, seven for each step, and seven more that were fed.
+    ghost few: { (d : Self) → is_ready d → length (fresh_of d) ≤ MAX_FRESH };
 }

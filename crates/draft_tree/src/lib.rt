@@ -2,15 +2,14 @@
 #![tactic(auto)]
 
 mod box_draft;
+mod change;
 mod copied_page;
 mod draft;
-mod laws;
 mod pages;
 mod slot_marks;
 mod steps;
 
+pub use afs_base::Memory;
 pub use box_draft::BoxDraft;
-pub use draft::Draft;
-pub use laws::level_law;
+pub use draft::{Draft, MAX_FRESH};
 pub use slot_marks::SlotMarks;
-pub use tree_model::Memory;

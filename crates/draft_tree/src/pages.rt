@@ -6,28 +6,32 @@ ghost use Rattle.std.specs.Map.{keys_of};
 ghost use Rattle.std.specs.BTreeMap.Range.{entries_between};
 ghost use Rattle.std.specs.declared.ops.Bound.TheVariants.{Included, Unbounded};
 ghost use Rattle.afs_base.specs.Path.{are_slots, is_prefix, path_cmp};
-ghost use Rattle.tree_model.specs.declared.step.Reply.TheVariants.{Done, Absent};
-ghost use Rattle.draft_model.specs.Laws.{AreMasks};
 ghost use Rattle.draft_model.specs.Steps.{data_reply, is_there};
-ghost use Rattle.draft_model.specs.Told.{flags_of, searched_of, modified_of, AreFresh, Wrote};
-ghost use Rattle.draft_model.specs.Views.{copies, live};
-ghost use Rattle.draft_tree.specs.Drafts.{CanMerge, live_page, merged_page};
-ghost use Rattle.draft_tree.specs.Marking.{searched_more, searched_all, data_read, data_written, child_made, child_dropped, taken_away, is_written};
-ghost use Rattle.draft_tree.specs.Pages.{shown, changed, put, cut_below, wanted_block, is_touched, is_fresh, fresh_paths};
+ghost use Rattle.draft_model.specs.Told.{flags_of, searched_of, modified_of, are_rising, Wrote};
+ghost use Rattle.draft_model.specs.Views.{Copied, copies, live};
+ghost use Rattle.draft_tree.specs.Drafts.{live_page};
+ghost use Rattle.draft_model.specs.Entries.{is_written};
+ghost use Rattle.draft_tree.specs.Marking.{taken_away, after_change, FitsPage};
+ghost use Rattle.draft_model.specs.Entries.{shown, is_touched, is_fresh, fresh_paths};
+ghost use Rattle.draft_tree.specs.Pages.{changed, put, cut_below, wanted_block};
 
+use crate::change::Change;
 use crate::copied_page::CopiedPage;
+use crate::draft::MAX_FRESH;
 use crate::slot_marks::SlotMarks;
-use afs_base::{BlockNo, PageData, Path, Slot};
+use afs_base::{BlockNo, Memory, Path, Slot};
+use arrayvec::ArrayVec;
 use page_codec::Page;
 use ref_flags::Flags;
 use std::alloc::Global;
 use std::collections::BTreeMap;
 use std::marker::Model;
-use tree_model::{Memory, Reply};
+use tree_model::Reply;
 
 /// Takes the page away where its path is `at` or lies below it. True always.
 fn take_away_below(at: &Path, path: &Path, copied: &mut CopiedPage) -> bool
-    ensures page { copied.new ≡ (if is_prefix at.now path.now then taken_away copied.old else copied.old) }
+    ensures page { copied.new
+        ≡ (if is_prefix at.now path.now then taken_away copied.old else copied.old) }
     ensures kept { result ≡ true }
 {
     if at.is_prefix_of(path) {
@@ -126,10 +130,19 @@ impl Pages {
         }
     }
 
+    /// The answer to a read of the path.
+    pub fn data(&self, at: &Path) -> Reply
+        ensures { result ≡ data_reply (copies (shown self.now) at.now) }
+    {
+        match self.list.get(at) {
+            Some(copied) => copied.data(),
+            None => Reply::Absent,
+        }
+    }
+
     /// The marks of the path.
     pub fn flags(&self, at: &Path) -> Flags
-        ensures flags { result ≡ flags_of (shown self.now at.now) }
-        ensures masks { AreMasks (shown self.now at.now) }
+        ensures { result ≡ flags_of (shown self.now at.now) }
     {
         match self.list.get(at) {
             Some(copied) => copied.flags(),
@@ -163,9 +176,11 @@ impl Pages {
 
     /// Puts a page at the path, in place of the one that stands there. Want of memory changes nothing.
     pub fn put(&mut self, at: &Path, copied: CopiedPage) -> Result<(), Memory>
-        ensures put { OnOk result ((p : List ℕ) → shown self.new p ≡ put (shown self.old) at.now copied p) }
+        ensures put { OnOk result
+            ((p : List ℕ) → shown self.new p ≡ put (shown self.old) at.now copied p) }
         ensures err { OnErr result (self.new ≡ self.old) }
         ensures len { length self.new ≤ length self.old + 1 }
+        ensures order { OnOk result (are_rising (keys_of self.new) ≡ true) }
         ensures slots { are_slots at.now ≡ true }
     {
         // A path that is looked at is known to have at most seven slots.
@@ -174,85 +189,22 @@ impl Pages {
         Ok(())
     }
 
-    /// Marks a slot of the page at the path as read.
-    pub fn search(&mut self, at: &Path, slot: Slot)
-        ensures view { (p : List ℕ) → shown self.new p ≡ changed (shown self.old) at.now (searched_more (2 ^ slot)) p }
-        ensures len { length self.new ≡ length self.old }
+    /// Does a change of the page at the path, where one stands there.
+    pub fn change(&mut self, at: &Path, change: &Change)
+        requires { (c : Copied) → shown self.old at.now ≡ Some c → FitsPage change.now c }
+        ensures view { (p : List ℕ) →
+            shown self.new p ≡ changed (shown self.old) at.now (after_change change.now) p }
+        ensures keys { keys_of self.new ≡ keys_of self.old }
     {
         if let Some(copied) = self.list.get_mut(at) {
-            copied.search(slot);
-        }
-    }
-
-    /// Marks every slot of the page at the path as read.
-    pub fn search_all(&mut self, at: &Path)
-        ensures view { (p : List ℕ) → shown self.new p ≡ changed (shown self.old) at.now searched_all p }
-        ensures len { length self.new ≡ length self.old }
-    {
-        if let Some(copied) = self.list.get_mut(at) {
-            copied.search_all();
-        }
-    }
-
-    /// Gives the data of the page at the path, and marks it as read unless it was written before.
-    pub fn read(&mut self, at: &Path) -> Reply
-        ensures view { (p : List ℕ) → shown self.new p ≡ changed (shown self.old) at.now data_read p }
-        ensures reply { result ≡ data_reply (copies (shown self.old) at.now) }
-        ensures len { length self.new ≡ length self.old }
-    {
-        match self.list.get_mut(at) {
-            Some(copied) => copied.read(),
-            None => Reply::Absent,
-        }
-    }
-
-    /// Replaces the data of the page at the path, and marks it as written.
-    pub fn write(&mut self, at: &Path, bytes: &PageData) -> Reply
-        ensures view { (p : List ℕ) → shown self.new p ≡ changed (shown self.old) at.now (data_written bytes.now) p }
-        ensures reply { result ≡ (if live (copies (shown self.old)) at.now then Done else Absent) }
-        ensures len { length self.new ≡ length self.old }
-    {
-        match self.list.get_mut(at) {
-            Some(copied) => copied.write(bytes),
-            None => Reply::Absent,
-        }
-    }
-
-    /// Marks that a page was made in a slot of the page at the path.
-    pub fn make_child(&mut self, at: &Path, slot: Slot)
-        ensures view { (p : List ℕ) → shown self.new p ≡ changed (shown self.old) at.now (child_made slot) p }
-        ensures len { length self.new ≡ length self.old }
-    {
-        if let Some(copied) = self.list.get_mut(at) {
-            copied.make_child(slot);
-        }
-    }
-
-    /// Empties a slot of the page at the path, and marks that its page was dropped.
-    pub fn drop_child(&mut self, at: &Path, slot: Slot)
-        ensures view { (p : List ℕ) → shown self.new p ≡ changed (shown self.old) at.now (child_dropped slot) p }
-        ensures len { length self.new ≡ length self.old }
-    {
-        if let Some(copied) = self.list.get_mut(at) {
-            copied.drop_child(slot);
-        }
-    }
-
-    /// Gives the page that is live at the path the slots and the data of a merged page of its level.
-    pub fn merge(&mut self, at: &Path, merged: &Page)
-        requires { CanMerge (shown self.old) at.now merged.now }
-        ensures view { (p : List ℕ) → shown self.new p ≡ changed (shown self.old) at.now (merged_page merged.now) p }
-        ensures len { length self.new ≡ length self.old }
-    {
-        if let Some(copied) = self.list.get_mut(at) {
-            copied.merge(merged);
+            copied.change(change);
         }
     }
 
     /// Takes away the pages at and below the path. Their marks stay.
     pub fn cut_below(&mut self, at: &Path)
         ensures view { (p : List ℕ) → shown self.new p ≡ cut_below (shown self.old) at.now p }
-        ensures len { length self.new ≡ length self.old }
+        ensures keys { keys_of self.new ≡ keys_of self.old }
     {
         self.list
             .retain(|path, copied| take_away_below(at, path, copied));
@@ -260,7 +212,9 @@ impl Pages {
 
     /// Whether something was written at or below the path, looking from its place on.
     fn touches_from(&self, at: &Path) -> bool
-        ensures value { result ≡ list_any (λ e. is_written e.1) (take_while (λ e. is_prefix at.now e.0) (entries_between path_cmp (Included at.now) Unbounded self.now)) }
+        ensures value { result
+            ≡ list_any (λ e. is_written e.1) (take_while (λ e. is_prefix at.now e.0)
+            (entries_between path_cmp (Included at.now) Unbounded self.now)) }
         ensures ordered { IsStrictlySortedBy path_cmp (keys_of self.now) }
     {
         self.list
@@ -298,10 +252,9 @@ impl Pages {
         copied.live && self.touches(at)
     }
 
-    /// How many such pages there are.
-    fn count_fresh(&self) -> usize
-        ensures value { result ≡ count_by (is_fresh self.now) self.now }
-        ensures ordered { IsStrictlySortedBy path_cmp (keys_of self.now) }
+    /// How many pages are live and have something written on or below them.
+    pub fn fresh_count(&self) -> usize
+        ensures { result ≡ count_by (is_fresh self.now) self.now }
     {
         self.list
             .iter()
@@ -309,13 +262,17 @@ impl Pages {
             .count()
     }
 
-    /// How many pages are live and have something written on or below them.
-    pub fn fresh_count(&self) -> usize
-        ensures count { result ≡ length (fresh_paths self.now) }
-        ensures fresh { AreFresh (shown self.now) (fresh_paths self.now) }
-        ensures most { result ≤ length self.now }
+    /// Lists the paths of these pages, in order.
+    pub fn list_fresh(&self, into: &mut ArrayVec<Path, MAX_FRESH>)
+        requires empty { into.old.items ≡ [] }
+        requires room { length self.now ≤ MAX_FRESH }
+        ensures { into.new.items ≡ fresh_paths self.now }
     {
-        self.count_fresh()
+        for (at, copied) in self.list.iter() {
+            if self.is_fresh(at, copied) {
+                into.push(*at);
+            }
+        }
     }
 
     /// The path of the k-th of these pages, from 0.

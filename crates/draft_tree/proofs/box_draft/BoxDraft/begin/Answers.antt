@@ -4,8 +4,9 @@ use Rattle.draft_model.specs.Views.{View}
 use Rattle.draft_model.specs.Steps.{begun}
 use Rattle.draft_model.specs.Stands.{Begins}
 use Rattle.draft_model.proofs.Feeding.{begins}
-use Rattle.draft_tree.specs.Pages.{shown, put}
-use Rattle.draft_tree.proofs.Kept.{top_begun, levels_begun, ways_begun, top_same, levels_same, ways_same}
+use Rattle.draft_model.specs.Entries.{shown}
+use Rattle.draft_tree.specs.Pages.{put}
+use Rattle.draft_tree.proofs.Kept.{top_begun, levels_begun, top_same, levels_same}
 use Rattle.draft_tree.proofs.box_draft.BoxDraft.begin.Goals as goal
 
 pub invariant_of-result-clause-top : goal.invariant_of-result-clause-top
@@ -19,12 +20,6 @@ invariant_of-result-clause-levels c =
     let page = c.version.inside.page in
     levels_same (begun page) (shown c.put.new.self) (λ p. c.in_ok-put.ensures.put p ∙ (λ j. put (shown (c.new-pages.ensures j)) (c.root.ensures j) (c.fed.ensures j) p))
     (levels_begun page c.version.invariant.top)
-
-pub invariant_of-result-clause-ways : goal.invariant_of-result-clause-ways
-invariant_of-result-clause-ways c =
-    let page = c.version.inside.page in
-    ways_same (begun page) (shown c.put.new.self) 0 (λ p. c.in_ok-put.ensures.put p ∙ (λ j. put (shown (c.new-pages.ensures j)) (c.root.ensures j) (c.fed.ensures j) p))
-    (ways_begun page)
 
 pub returns-clause-begins : goal.returns-clause-begins
 returns-clause-begins c =

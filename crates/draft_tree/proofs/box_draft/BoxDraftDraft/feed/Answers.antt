@@ -3,8 +3,9 @@ use Rattle.draft_model.specs.Views.{Copied, View}
 use Rattle.draft_model.specs.Steps.{fed}
 use Rattle.draft_model.specs.Stands.{Feeds}
 use Rattle.draft_model.proofs.Feeding.{feeds}
-use Rattle.draft_tree.specs.Pages.{shown, put}
-use Rattle.draft_tree.proofs.Kept.{top_fed, levels_fed, ways_fed, top_same, levels_same, ways_same}
+use Rattle.draft_model.specs.Entries.{shown}
+use Rattle.draft_tree.specs.Pages.{put}
+use Rattle.draft_tree.proofs.Kept.{top_fed, levels_fed, top_same, levels_same}
 use Rattle.draft_tree.proofs.box_draft.BoxDraftDraft.feed.Goals as goal
 
 pub invariant_of-self-2-clause-top : goal.invariant_of-self-2-clause-top
@@ -22,14 +23,6 @@ invariant_of-self-2-clause-levels c =
     let page = c.args.page.now in
     levels_same (fed d q page) (shown c.put.new.self) (λ p. c.in_ok-put.ensures.put p ∙ ap (λ (x : Copied). put d q x p) c.fed.ensures)
     (levels_fed d q page c.requires.level c.args.self.now.levels)
-
-pub invariant_of-self-2-clause-ways : goal.invariant_of-self-2-clause-ways
-invariant_of-self-2-clause-ways c =
-    let d = shown c.args.self.now.pages in
-    let q = c.args.at.now in
-    let page = c.args.page.now in
-    ways_same (fed d q page) (shown c.put.new.self) c.args.self.now.count (λ p. c.in_ok-put.ensures.put p ∙ ap (λ (x : Copied). put d q x p) c.fed.ensures)
-    (ways_fed d q page c.args.self.now.count c.args.self.now.ways)
 
 pub returns-clause-feeds : goal.returns-clause-feeds
 returns-clause-feeds c =

@@ -2,11 +2,11 @@ use Rattle.std.proofs.Common.{sym, subst}
 use Rattle.ref_flags.specs.Flagged.{Flagged}
 use Rattle.draft_model.specs.Told.{TellsFlags}
 use Rattle.draft_model.proofs.Telling.{tells_flags}
-use Rattle.draft_tree.specs.Pages.{shown}
+use Rattle.draft_model.specs.Entries.{shown}
 use Rattle.draft_tree.proofs.box_draft.BoxDraftDraft.flags.Goals as goal
 
 pub returns-clause-tells : goal.returns-clause-tells
 returns-clause-tells c =
     let d = shown c.args.self.now.pages in
     let F : Flagged → Type 0 = λ f. TellsFlags d c.args.at.now f in
-    subst F (sym c.flags.ensures.flags) (tells_flags d c.args.at.now c.flags.ensures.masks)
+    subst F (sym c.flags.ensures) (tells_flags d c.args.at.now)

@@ -1,7 +1,7 @@
 use Rattle.std.proofs.Common.{ℕ, sym, subst}
 use Rattle.draft_model.specs.Told.{modified_of, TellsMasks}
 use Rattle.draft_model.proofs.Telling.{tells_masks}
-use Rattle.draft_tree.specs.Pages.{shown}
+use Rattle.draft_model.specs.Entries.{shown}
 use Rattle.draft_tree.proofs.box_draft.BoxDraftDraft.slots.Goals as goal
 
 pub returns-clause-tells : goal.returns-clause-tells

@@ -1,11 +1,11 @@
-use Rattle.std.proofs.Common.{◌≡◌, ◌+◌, sym, subst}
+use Rattle.std.proofs.Common.{◌≡◌, sym, subst}
 use Rattle.tree_model.specs.declared.step.Reply.{Reply}
 use Rattle.draft_model.specs.Views.{View, copies}
 use Rattle.draft_model.specs.Steps.{stepped, reply_in}
 use Rattle.draft_model.specs.Stands.{Runs}
 use Rattle.draft_model.proofs.Runs.{runs}
-use Rattle.draft_tree.specs.Pages.{shown}
-use Rattle.draft_tree.proofs.Kept.{top_stepped, levels_stepped, ways_stepped, top_same, levels_same, ways_same}
+use Rattle.draft_model.specs.Entries.{shown}
+use Rattle.draft_tree.proofs.Kept.{top_stepped, levels_stepped, top_same, levels_same}
 use Rattle.draft_tree.proofs.box_draft.BoxDraftDraft.step.Goals as goal
 
 pub invariant_of-self-2-clause-top : goal.invariant_of-self-2-clause-top
@@ -19,13 +19,6 @@ invariant_of-self-2-clause-levels c =
     let d = shown c.args.self.now.pages in
     let step = c.args.step.now in
     levels_same (stepped d step) (shown c.step.new.self) c.in_ok-reply.ensures.view (levels_stepped d step c.args.self.now.levels)
-
-pub invariant_of-self-2-clause-ways : goal.invariant_of-self-2-clause-ways
-invariant_of-self-2-clause-ways c =
-    let d = shown c.args.self.now.pages in
-    let step = c.args.step.now in
-    ways_same (stepped d step) (shown c.step.new.self) (c.args.self.now.count + 1) c.in_ok-reply.ensures.view
-    (ways_stepped d step c.args.self.now.count c.args.self.now.ways)
 
 pub returns-clause-runs : goal.returns-clause-runs
 returns-clause-runs c =

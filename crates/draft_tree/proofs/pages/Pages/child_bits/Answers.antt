@@ -1,6 +1,6 @@
 use Rattle.std.proofs.Common.{◌+◌, ap, sym, ◌∙◌, add-one, arith}
 use Rattle.draft_model.specs.Views.{copies}
-use Rattle.draft_tree.specs.Pages.{shown}
+use Rattle.draft_model.specs.Entries.{shown}
 use Rattle.draft_tree.proofs.Stepping.{bits_below, bits_none, bits_more, bits_fit}
 use Rattle.draft_tree.proofs.pages.Pages.child_bits.Goals as goal
 

@@ -1,6 +1,6 @@
 use Rattle.std.proofs.Common.{◌≡◌}
 use Rattle.draft_model.specs.Views.{copies}
-use Rattle.draft_tree.specs.Pages.{shown}
+use Rattle.draft_model.specs.Entries.{shown}
 use Rattle.draft_tree.proofs.Stepping.{bits_below}
 use Rattle.draft_tree.proofs.pages.Pages.child_bits.Given as goal
 

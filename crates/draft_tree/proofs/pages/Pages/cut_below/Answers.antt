@@ -1,10 +1,11 @@
-use Rattle.std.proofs.Common.{◌≡◌, ℕ, List, map, cond, ap, ◌∙◌, length, rules}
-use Rattle.std.proofs.lemmas.List.{length-map}
+use Rattle.std.proofs.Common.{◌≡◌, ℕ, List, map, cond, ap, ◌∙◌, rules}
+use Rattle.std.specs.Map.{keys_of}
 use Rattle.afs_base.specs.Path.{is_prefix}
 use Rattle.draft_model.specs.Views.{Copied}
 use Rattle.draft_tree.specs.Marking.{taken_away}
-use Rattle.draft_tree.specs.Pages.{Entry, shown, cut_below}
-use Rattle.draft_tree.proofs.PageFacts.{map_pairs, shown_map, cut_is, short_cut}
+use Rattle.draft_model.specs.Entries.{Entry, shown}
+use Rattle.draft_tree.specs.Pages.{cut_below}
+use Rattle.draft_tree.proofs.PageFacts.{map_pairs, keys_map, shown_map, cut_is, short_cut}
 use Rattle.draft_tree.proofs.pages.Pages.cut_below.Goals as goal
 
 away : List ℕ → List ℕ → Copied → Copied
@@ -27,5 +28,7 @@ invariant_of-self c = short_cut _ _ _ (view_is c) c.self.invariant
 pub returns-clause-view : goal.returns-clause-view
 returns-clause-view c p = view_is c p ∙ ap (λ (es : List Entry). cut_below (shown es) c.args.at.now p) c.self.view_is
 
-pub returns-clause-len : goal.returns-clause-len
-returns-clause-len c = ap length (entries_are c) ∙ length-map c.self.inside.list.entries _ ∙ ap length c.self.view_is
+pub returns-clause-keys : goal.returns-clause-keys
+returns-clause-keys c =
+    ap (λ (es : List Entry). keys_of es) (entries_are c) ∙ keys_map (away c.args.at.now) c.self.inside.list.entries
+    ∙ ap (λ (es : List Entry). keys_of es) c.self.view_is

@@ -1,7 +1,7 @@
 use Rattle.std.proofs.Common.{option_map, sym, ap, ◌∙◌, rules, tests}
 use Rattle.std.specs.Map.Iter.{deref_pair}
 use Rattle.std.proofs.lemmas.Iterator.Consumers.{YieldsList-from_rest, YieldsList-from_filter, YieldsList-at, nth_from_yields_List}
-use Rattle.draft_tree.specs.Pages.{Entry, is_fresh}
+use Rattle.draft_model.specs.Entries.{Entry, is_fresh}
 use Rattle.draft_tree.proofs.Fresh.{fresh_at}
 use Rattle.draft_tree.proofs.pages.Pages.fresh.Goals as goal
 

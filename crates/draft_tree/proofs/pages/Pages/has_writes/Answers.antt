@@ -1,5 +1,5 @@
 use Rattle.std.proofs.Common.{sym, ◌∙◌}
-use Rattle.draft_tree.proofs.Fresh.{any_wrote, wrote_any}
+use Rattle.draft_model.proofs.Entries.{any_wrote, wrote_any}
 use Rattle.draft_tree.proofs.pages.Pages.has_writes.Goals as goal
 
 pub returns : goal.returns

@@ -1,6 +1,6 @@
 use Rattle.std.proofs.Common.{List, ◌∷◌, [], ◌++◌, refl, sym, ap, ◌∙◌}
 use Rattle.draft_model.specs.Views.{copies, live}
-use Rattle.draft_tree.specs.Pages.{Entry, shown}
+use Rattle.draft_model.specs.Entries.{Entry, shown}
 use Rattle.draft_tree.proofs.PageFacts.{short_dead}
 use Rattle.draft_tree.proofs.pages.Pages.is_child_live.Goals as goal
 

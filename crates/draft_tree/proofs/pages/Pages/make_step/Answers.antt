@@ -2,7 +2,8 @@ use Rattle.std.proofs.Common.{◌≡◌, true, false, not, ◌&&◌, length, ref
 use Rattle.draft_model.specs.Views.{copies, live}
 use Rattle.draft_model.specs.Steps.{makes, made, is_there}
 use Rattle.draft_tree.specs.Marking.{child_made}
-use Rattle.draft_tree.specs.Pages.{shown, put, changed, searched_to}
+use Rattle.draft_model.specs.Entries.{shown}
+use Rattle.draft_tree.specs.Pages.{put, changed, searched_to}
 use Rattle.tree_model.specs.Children.{path_of}
 use Rattle.draft_tree.proofs.Stepping.{made_done}
 use Rattle.draft_tree.proofs.pages.Pages.make_step.Goals as goal
@@ -19,7 +20,7 @@ returns-clause-view c p =
     ∙ (λ j. sym c.is_live.ensures j && not (sym c.has_child.ensures j))
     ∙ (λ j. there j && not (free j)) in
     c.search_way-2.ensures.view p
-    ∙ (λ j. searched_to (λ y. c.make_child.ensures.view y j) (c.path-path.result) p)
+    ∙ (λ j. searched_to (λ y. c.change.ensures.view y j) (c.path-path.result) p)
     ∙ (λ j. searched_to (changed (λ y. c.in_ok-put_made.ensures.put y j) c.above-3.result (child_made c.last-2.result)) c.path-path.result p)
     ∙ (λ j. searched_to (changed (put d (path j) (made (length (path j)) (d (path j)))) (c.above-3.ensures.above j) (child_made (c.last-2.ensures j))) (path j) p)
     ∙ made_done d x (made (length (path_of x)) (d (path_of x))) p acts refl

@@ -1,6 +1,7 @@
 use Rattle.std.proofs.Common.{◌≡◌, ℕ, ◌<◌, List, [], ◌∷◌, ◌++◌, take, slice_index, length, Some, None, sym, ap, subst, ◌∙◌, add-one, arith, below_more}
 use Rattle.draft_model.specs.Views.{copies, Wants}
-use Rattle.draft_tree.specs.Pages.{shown, wanted_block}
+use Rattle.draft_model.specs.Entries.{shown}
+use Rattle.draft_tree.specs.Pages.{wanted_block}
 use Rattle.draft_tree.proofs.Wanting.{take_more, none_wanted, wants_of}
 use Rattle.draft_tree.proofs.pages.Pages.need.Goals as goal
 

@@ -1,6 +1,7 @@
 use Rattle.std.proofs.Common.{◌≡◌, ℕ, ◌<◌, None, take, slice_index}
 use Rattle.draft_model.specs.Views.{copies}
-use Rattle.draft_tree.specs.Pages.{shown, wanted_block}
+use Rattle.draft_model.specs.Entries.{shown}
+use Rattle.draft_tree.specs.Pages.{wanted_block}
 use Rattle.draft_tree.proofs.pages.Pages.need.Given as goal
 
 abbrev pub invariant-loop-i : goal.invariant-loop-i

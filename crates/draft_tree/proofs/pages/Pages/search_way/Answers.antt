@@ -1,7 +1,8 @@
 use Rattle.std.proofs.Common.{◌≡◌, ◌^◌, ◌<◌, [], ◌∷◌, ◌++◌, take, length, refl, sym, ap, ◌∙◌, add-one, arith}
 use Rattle.std.proofs.lemmas.List.{length-take-le}
 use Rattle.draft_tree.specs.Marking.{searched_more}
-use Rattle.draft_tree.specs.Pages.{shown, changed}
+use Rattle.draft_model.specs.Entries.{shown}
+use Rattle.draft_tree.specs.Pages.{changed}
 use Rattle.draft_tree.proofs.Ways.{searched_until, until_none, until_more, until_all}
 use Rattle.draft_tree.proofs.Wanting.{take_more}
 use Rattle.draft_tree.proofs.pages.Pages.search_way.Goals as goal
@@ -17,10 +18,10 @@ loop-i-preserved c =
     let within : i < length q = omega (arith, c.len-i-end.ensures.value) in
     let inv = c.loop-i.invariant in (
       c.below-above.ensures ∙ (λ j. inv.0 j ++ c.slot-slot.ensures j ∷ []) ∙ take_more q i within ∙ ap (λ n. take n q) (sym (add-one i)),
-      λ p. c.search.ensures.view p
+      λ p. c.change.ensures.view p
           ∙ (λ j. changed (λ x. inv.1 x j) (inv.0 j) (searched_more (2 ^ c.slot-slot.ensures j)) p)
           ∙ until_more d q i p within (length-take-le i q (omega arith)),
-      c.search.ensures.len ∙ inv.2,
+      c.change.ensures.keys ∙ inv.2,
     )
 
 pub returns-clause-view : goal.returns-clause-view

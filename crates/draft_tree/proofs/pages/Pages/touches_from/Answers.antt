@@ -5,8 +5,8 @@ use Rattle.std.specs.declared.ops.Bound.TheVariants.{Included, Unbounded}
 use Rattle.std.proofs.lemmas.Iterator.Consumers.{YieldsList-from_rest, YieldsList-at}
 use Rattle.std.proofs.lemmas.Iterator.Search.{any_from_yields_List, YieldsList-from_take_while}
 use Rattle.afs_base.specs.Path.{path_cmp, is_prefix}
-use Rattle.draft_tree.specs.Marking.{is_written}
-use Rattle.draft_tree.specs.Pages.{Entry}
+use Rattle.draft_model.specs.Entries.{is_written}
+use Rattle.draft_model.specs.Entries.{Entry}
 use Rattle.draft_tree.proofs.pages.Pages.touches_from.Goals as goal
 
 pub returns-clause-value : goal.returns-clause-value
