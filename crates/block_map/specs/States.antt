@@ -1,5 +1,6 @@
 -- Lists of block states, block 0 first.
 use Rattle.std.specs.Prelude.{◌≡◌, ℕ, ◌≤◌, ◌==◌, nat_lt, Bool, true, false, ◌&&◌, if◌then◌else◌, List, length, take, count_by, slice_index_or}
+use Rattle.afs_base.specs.declared.limits.TheConstants.{MAX_BLOCKS, MIN_BLOCKS}
 use Rattle.block_map.specs.declared.states.BlockState.{BlockState}
 use Rattle.block_map.specs.declared.states.BlockState.TheVariants.{Free, Held, Kept}
 
@@ -52,7 +53,7 @@ pub record Replaces (client : ℕ) (by : BlockState) (old new : List BlockState)
 -- the table's block is kept, the free blocks are counted, and none is below `least`
 pub record IsSound (states : List BlockState) (free least : ℕ) : Type 0 where
   pub table : state_at states 0 ≡ Kept
-  pub some : 2 ≤ length states
-  pub most : length states ≤ 65536
+  pub some : MIN_BLOCKS ≤ length states
+  pub most : length states ≤ MAX_BLOCKS
   pub count : free ≡ free_count states
   pub none_below : free_below states least ≡ 0

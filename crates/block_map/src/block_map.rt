@@ -3,8 +3,8 @@ ghost use Rattle.block_map.specs.States.{free_count, held_count, held_below, sta
 ghost use Rattle.block_map.specs.declared.states.BlockState.TheVariants.{Free, Held, Kept};
 
 use crate::states::{BlockState, first_held, is_held, replace_held, take_least};
-use afs_base::{BlockNo, ClientNo};
-use std::alloc::{AllocError, Global};
+use afs_base::{BlockNo, ClientNo, MAX_BLOCKS, MIN_BLOCKS, Memory};
+use std::alloc::Global;
 use std::marker::Model;
 use thiserror::Error;
 
@@ -39,9 +39,9 @@ pub struct NoSpace {
 
 impl BlockMap {
     /// The map of a store of `blocks` blocks, of which block 0, the table, is kept and all others are free.
-    pub fn make(alloc: Global, blocks: u32) -> Result<BlockMap, AllocError>
-        requires least { 2 ≤ blocks }
-        requires most { blocks ≤ 65536 }
+    pub fn make(alloc: Global, blocks: u32) -> Result<BlockMap, Memory>
+        requires least { MIN_BLOCKS ≤ blocks }
+        requires most { blocks ≤ MAX_BLOCKS }
         ensures states { IfOk result (λ map. map ≡ Kept ∷ replicate (blocks - 1) Free) }
         ensures free { IfOk result (λ map. free_count map ≡ blocks - 1) }
         ensures held { IfOk result (λ map. (c : ℕ) → held_count c map ≡ 0) }
@@ -68,7 +68,7 @@ impl BlockMap {
     pub fn free(&self) -> u32
         ensures value { result ≡ free_count self.now }
         ensures bound { result < length self.now }
-        ensures most { length self.now ≤ 65536 }
+        ensures most { length self.now ≤ MAX_BLOCKS }
     {
         self.free
     }
@@ -89,7 +89,8 @@ impl BlockMap {
     pub fn hold(&mut self, client: ClientNo, n: u32) -> Result<(), NoSpace>
         requires { held_count client self.old ≡ 0 }
         ensures room { IsOk result ↔ (n ≤ free_count self.old) }
-        ensures no_space { IfErr result (λ e. e ≡ record { needed = n; free = free_count self.old }) }
+        ensures no_space { IfErr result
+            (λ e. e ≡ record { needed = n; free = free_count self.old }) }
         ensures err { OnErr result (self.new ≡ self.old) }
         ensures ok { OnOk result (TakesLeast client n self.old self.new) }
         ensures free { OnOk result (free_count self.new + n ≡ free_count self.old) }
@@ -112,8 +113,23 @@ impl BlockMap {
         requires { k < held_count client self.now }
         ensures held { slice_get self.now result ≡ Some (Held client) }
         ensures place { held_below client self.now result ≡ k }
+        // Block 0, the table, is always kept.
+        ensures named { 0 < result }
     {
         kth_held(&self.states, client, k)
+    }
+
+    /// The first block that the client holds from `from` on. It looks at no block below that one, nor behind the one that
+    /// it answers, so a walk over all held blocks looks at each block once.
+    pub fn next_held(&self, client: ClientNo, from: BlockNo) -> BlockNo
+        requires { held_below client self.now from < held_count client self.now }
+        ensures held { slice_get self.now result ≡ Some (Held client) }
+        ensures from { from ≤ result }
+        ensures none_between { held_below client self.now result ≡ held_below client self.now from }
+        // Block 0, the table, is always kept.
+        ensures named { 0 < result }
+    {
+        first_held_from(&self.states, client, from.get() as usize)
     }
 
     /// Turns what the client holds into kept blocks.
@@ -157,7 +173,7 @@ impl BlockMap {
 /// The `k`-th block that the client holds, ascending from 0.
 fn kth_held(states: &[BlockState], client: ClientNo, k: u32) -> BlockNo
     requires held { k < held_count client states.now }
-    requires small { length states.now ≤ 65536 }
+    requires small { length states.now ≤ MAX_BLOCKS }
     ensures held { slice_get states.now result ≡ Some (Held client) }
     ensures place { held_below client states.now result ≡ k }
 {
@@ -165,7 +181,7 @@ fn kth_held(states: &[BlockState], client: ClientNo, k: u32) -> BlockNo
     'search: for (at, state) in states.iter().enumerate() {
         if is_held(client, *state) {
             if before == k {
-                return block_at(at);
+                return BlockNo::at(at as u32);
             }
             before += 1;
         }
@@ -173,13 +189,18 @@ fn kth_held(states: &[BlockState], client: ClientNo, k: u32) -> BlockNo
     unreachable!()
 }
 
-/// The block at a place.
-fn block_at(at: usize) -> BlockNo
-    requires { at < 65536 }
-    ensures { result ≡ at }
+/// The first block that the client holds from a place on.
+fn first_held_from(states: &[BlockState], client: ClientNo, from: usize) -> BlockNo
+    requires held { held_below client states.now from < held_count client states.now }
+    requires small { length states.now ≤ MAX_BLOCKS }
+    ensures held { slice_get states.now result ≡ Some (Held client) }
+    ensures from { from ≤ result }
+    ensures none_between { held_below client states.now result ≡ held_below client states.now from }
 {
-    match BlockNo::of(at as u32) {
-        Ok(block) => block,
-        Err(_) => unreachable!(),
+    'search: for at in from..states.len() {
+        if is_held(client, states[at]) {
+            return BlockNo::at(at as u32);
+        }
     }
+    unreachable!()
 }

@@ -41,7 +41,8 @@ pub fn take_least(states: &mut Vec<BlockState>, from: usize, client: ClientNo, n
     ensures taken { TakesLeast client n states.old.items states.new.items }
     ensures free { free_count states.new.items + n ≡ free_count states.old.items }
     ensures held { held_count client states.new.items ≡ held_count client states.old.items + n }
-    ensures others { (c : ℕ) → c ≢ client → held_count c states.new.items ≡ held_count c states.old.items }
+    ensures others { (c : ℕ) → c ≢ client
+        → held_count c states.new.items ≡ held_count c states.old.items }
     ensures none_free { free_below states.new.items result ≡ 0 }
 {
     let mut left = n;
