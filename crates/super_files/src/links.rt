@@ -1,5 +1,6 @@
 ghost use Rattle.std.specs.Prelude.{◌≡◌, [], ◌∷◌, MatchOption};
 
+use afs_base::MAX_MEMBERS;
 use arrayvec::ArrayVec;
 use page_codec::{Member, Members};
 use std::marker::Model;
@@ -7,7 +8,7 @@ use std::marker::Model;
 /// The links of a commit that are still to be set: the members of the version that committed, in their order.
 #[derive(Debug, Drop)]
 pub struct Links {
-    members: ArrayVec<Member, 16>,
+    members: ArrayVec<Member, MAX_MEMBERS>,
     next: usize,
 }
 
@@ -37,7 +38,8 @@ impl Links {
 
     /// The next member whose link is to be set; none when there is no further one.
     pub fn next(&mut self) -> Option<Member>
-        ensures { MatchOption result ((self.old ≡ []) × (self.new ≡ [])) (λ member. self.old ≡ member ∷ self.new) }
+        ensures { MatchOption result ((self.old ≡ []) × (self.new ≡ []))
+            (λ member. self.old ≡ member ∷ self.new) }
     {
         let member = self.members.as_slice().get(self.next).copied()?;
         self.next += 1;

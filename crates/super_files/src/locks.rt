@@ -1,16 +1,13 @@
 ghost use Rattle.std.specs.Prelude.{◌≡◌, ◌≢◌, ◌<◌, ◌≤◌, ℕ, List, [], ◌∷◌, ◌++◌, length, MatchOption, MatchResult, find, option_map};
 ghost use Rattle.super_files.specs.Locks.{Holds, IsOpenTo, held_count, is_on, without};
 
-use afs_base::ClientNo;
+use afs_base::{ClientNo, MAX_CLIENTS, MAX_FILES};
 use arrayvec::ArrayVec;
 use std::marker::Model;
 use thiserror::Error;
 
-/// The most locks that one client holds: those of an update of seventeen files.
-const MAX_OF_CLIENT: usize = 17;
-
-/// The most locks that stand: sixteen clients hold seventeen each.
-const MAX_LOCKS: usize = 272;
+/// The most locks that stand: sixteen clients hold those of an update of seventeen files each.
+const MAX_LOCKS: usize = MAX_CLIENTS as usize * MAX_FILES;
 
 /// Which file of an update a lock is on.
 #[derive(Clone, Copy, Debug, PartialEq, Eq)]
@@ -78,10 +75,11 @@ impl Locks {
 
     /// Locks the first file of a client's update, unless another client holds it; then nothing changes.
     pub fn lock_top(&mut self, client: ClientNo, object: u32) -> Result<(), Locked>
-        requires { held_count client self.old < 17 }
-        ensures { MatchResult result
-            (λ _. IsOpenTo client object self.old × (self.new ≡ self.old ++ record { client = client; object = object; part = Part.Top } ∷ []))
-            (λ e. (e.by ≢ client) × Holds e.by object self.old × (self.new ≡ self.old)) }
+        requires { held_count client self.old < MAX_FILES }
+        ensures { MatchResult result (λ _. IsOpenTo client object self.old
+            × (self.new
+            ≡ self.old ++ record { client = client; object = object; part = Part.Top } ∷
+            [])) (λ e. (e.by ≢ client) × Holds e.by object self.old × (self.new ≡ self.old)) }
     {
         self.lock(Lock {
             client,
@@ -92,10 +90,11 @@ impl Locks {
 
     /// Locks another file of a client's update, unless another client holds it; then nothing changes.
     pub fn lock_inner(&mut self, client: ClientNo, object: u32) -> Result<(), Locked>
-        requires { held_count client self.old < 17 }
-        ensures { MatchResult result
-            (λ _. IsOpenTo client object self.old × (self.new ≡ self.old ++ record { client = client; object = object; part = Part.Inner } ∷ []))
-            (λ e. (e.by ≢ client) × Holds e.by object self.old × (self.new ≡ self.old)) }
+        requires { held_count client self.old < MAX_FILES }
+        ensures { MatchResult result (λ _. IsOpenTo client object self.old
+            × (self.new
+            ≡ self.old ++ record { client = client; object = object; part = Part.Inner } ∷
+            [])) (λ e. (e.by ≢ client) × Holds e.by object self.old × (self.new ≡ self.old)) }
     {
         self.lock(Lock {
             client,
@@ -106,7 +105,8 @@ impl Locks {
 
     /// The client that holds a lock of the object, of either kind; none where nobody does.
     pub fn holder(&self, object: u32) -> Option<ClientNo>
-        ensures { MatchOption result ((k : ℕ) → ¬ (Holds k object self.now)) (λ k. Holds k object self.now) }
+        ensures { MatchOption result ((k : ℕ) → ¬ (Holds k object self.now))
+            (λ k. Holds k object self.now) }
     {
         first_on(self.list.as_slice(), object)
     }
@@ -126,7 +126,7 @@ impl Locks {
     }
 
     fn lock(&mut self, lock: Lock) -> Result<(), Locked>
-        requires { held_count lock.client self.old < 17 }
+        requires { held_count lock.client self.old < MAX_FILES }
         ensures { MatchResult result
             (λ _. IsOpenTo lock.client lock.object self.old × (self.new ≡ self.old ++ lock ∷ []))
             (λ e. (e.by ≢ lock.client) × Holds e.by lock.object self.old × (self.new ≡ self.old)) }
@@ -143,7 +143,8 @@ impl Locks {
 
     /// Another client that holds a lock of the object.
     fn other_holder(&self, client: ClientNo, object: u32) -> Option<ClientNo>
-        ensures { MatchOption result (IsOpenTo client object self.now) (λ by. (by ≢ client) × Holds by object self.now) }
+        ensures { MatchOption result (IsOpenTo client object self.now)
+            (λ by. (by ≢ client) × Holds by object self.now) }
     {
         let _locks = &self.list;
         match self.holder(object) {
