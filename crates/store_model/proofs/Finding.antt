@@ -4,7 +4,7 @@ use Rattle.std.specs.Option.{option_and_then, option_or}
 use Rattle.std.proofs.lemmas.List.Folds.{find-append}
 use Rattle.afs_base.specs.Path.{is_prefix}
 use Rattle.page_codec.specs.Values.{ReferenceValue, PageValue}
-use Rattle.draft_model.specs.Places.{Store, same, block_at, slot_block}
+use Rattle.page_places.specs.Places.{Store, same, block_at, slot_block}
 use Rattle.tree_model.proofs.Paths.{told, same_is}
 use Rattle.store_model.specs.Laid.{Node, page_in, block_in, as_shared, shared_from}
 
@@ -91,10 +91,10 @@ block_in_shared q p (x ∷ xs) = of (is_prefix q x.path) refl (block_in_shared q
     beside false is out rest = rest
 
     of : (b : Bool) → is_prefix q x.path ≡ b → block_in p (shared_from q xs) ≡ cond (is_prefix q p) (block_in p xs) None
-        → block_in p (map as_shared (cond b (x ∷ filter (λ node. is_prefix q node.path) xs) (filter (λ node. is_prefix q node.path) xs)))
+        → block_in p (map (as_shared q) (cond b (x ∷ filter (λ node. is_prefix q node.path) xs) (filter (λ node. is_prefix q node.path) xs)))
         ≡ cond (is_prefix q p) (block_in p (x ∷ xs)) None
     of true under rest =
-        block_in_first p (as_shared x) (shared_from q xs) ∙ below (same p x.path) refl under rest
+        block_in_first p (as_shared q x) (shared_from q xs) ∙ below (same p x.path) refl under rest
         ∙ ap (λ o. cond (is_prefix q p) o None) (sym (block_in_first p x xs))
     of false out rest = beside (same p x.path) refl out rest ∙ ap (λ o. cond (is_prefix q p) o None) (sym (block_in_first p x xs))
 

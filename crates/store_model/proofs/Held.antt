@@ -8,7 +8,7 @@ use Rattle.afs_base.specs.Path.{path_cmp}
 use Rattle.page_codec.specs.declared.why.Why.TheVariants.{Member}
 use Rattle.page_codec.specs.Values.{PageValue, MemberValue}
 use Rattle.page_codec.specs.Causes.{version_of}
-use Rattle.draft_model.specs.Places.{Store, Holds, same}
+use Rattle.page_places.specs.Places.{Store, Holds, same}
 use Rattle.tree_model.proofs.Paths.{path_total, same_is}
 use Rattle.store_model.specs.Walk.{place}
 use Rattle.store_model.specs.Laid.{Node, LaidVersion, LaidFile, page_in, last_laid}

@@ -25,3 +25,8 @@ pub mod NewFiles
 pub mod LastLinks
 pub mod NewBytes
 pub mod Gathering
+pub mod FirstPages
+pub mod KeptTrees
+pub mod Counted
+pub mod SharedPages
+pub mod FoundStates

@@ -5,8 +5,8 @@ use Rattle.afs_base.specs.Path.{is_prefix}
 use Rattle.page_codec.specs.declared.why.Why.TheVariants.{Level, Reference}
 use Rattle.page_codec.specs.Values.{ReferenceValue, PageValue}
 use Rattle.page_codec.specs.Causes.{page_of}
-use Rattle.draft_model.specs.Places.{Store, block_at, same}
-use Rattle.draft_model.proofs.Facts.{block_at_append, at_root}
+use Rattle.page_places.specs.Places.{Store, block_at, same}
+use Rattle.page_places.proofs.Facts.{block_at_append, at_root}
 use Rattle.tree_model.proofs.Paths.{same_self, same_is, prefix_append}
 use Rattle.store_model.specs.Walk.{Blocks, place}
 use Rattle.store_model.specs.Laid.{Node, as_shared, shared_from, block_in, is_block, lies_at}
@@ -115,7 +115,7 @@ each_shared store q [] h = h
 each_shared store q (x ∷ xs) h = of (is_prefix q x.path) (each_shared store q xs h.1)
   where
     of : (b : Bool) → Each (IsHeld store) (shared_from q xs)
-        → Each (IsHeld store) (map as_shared (cond b (x ∷ filter (λ node. is_prefix q node.path) xs) (filter (λ node. is_prefix q node.path) xs)))
+        → Each (IsHeld store) (map (as_shared q) (cond b (x ∷ filter (λ node. is_prefix q node.path) xs) (filter (λ node. is_prefix q node.path) xs)))
     of true rest = (h.0, rest)
     of false rest = rest
 

@@ -8,7 +8,7 @@ use Rattle.page_codec.specs.Reading.{slots, reference, frame_value, version_valu
 use Rattle.page_codec.specs.Causes.{first_cause, cause_or, page_causes, version_causes, page_of, version_of, is_nonzero}
 use Rattle.page_codec.specs.Facts.{PageFacts, VersionFacts}
 use Rattle.page_codec.proofs.FactLaws.{PageFacts-none, VersionFacts-none}
-use Rattle.draft_model.specs.Places.{Store, block_at}
+use Rattle.page_places.specs.Places.{Store, block_at}
 use Rattle.store_model.specs.Laws.{read_of, page_of_block, pages_of}
 use Rattle.store_model.proofs.Finding.{named}
 

@@ -20,7 +20,7 @@ use Rattle.store_model.specs.Chains.{follows, version_at, chain_from, chain_at}
 use Rattle.store_model.specs.Tables.{part_rows, parts_from, table_rows, files_from}
 use Rattle.store_model.specs.Members.{version_linked, member_linked, members_linked, tops_linked}
 use Rattle.store_model.specs.Found.{laid_from, laid, found}
-use Rattle.store_model.specs.Places.{block_at, marks_at}
+use Rattle.store_model.specs.Places.{block_at, marks_at, mask_at}
 
 -- a store as a list of blocks, block 0 first; those behind the list are closed
 abbrev pub Store : Type 0
@@ -74,7 +74,7 @@ unfoldable pub serials_in : Store → Result (List (List ℕ)) Refused
 unfolding big_endian number_at zeros pieces empty_slots no_entries no_parts frame_bytes version_middle page_bytes version_bytes rest_bytes root_bytes part_bytes slots frame_value members_value version_value page_causes version_causes raw_entries part_numbers head_causes one_causes two_causes root_value part_causes part_value bind done refuse check decoded content_at if_some is_new add place page_at own_from named_from slot_from slots_from pages_below follows version_at chain_from chain_at part_rows parts_from table_rows files_from version_linked member_linked members_linked tops_linked laid_from laid
 serials_in blocks = outcome (found (content_of blocks) 64)
 
--- the block of a page of object 1, and the flag code of the reference to it
+-- the block of a page of object 1, the flag code of the reference to it, and its mask
 unfoldable pub lies_in : Store → ℕ → List ℕ → Option ℕ
 unfolding serials_in
 lies_in blocks serial path = block_at (content_of blocks) 64 1 serial path
@@ -82,6 +82,10 @@ lies_in blocks serial path = block_at (content_of blocks) 64 1 serial path
 unfoldable pub marked_in : Store → ℕ → List ℕ → Option ℕ
 unfolding serials_in
 marked_in blocks serial path = marks_at (content_of blocks) 64 1 serial path
+
+unfoldable pub masked_in : Store → ℕ → List ℕ → Option ℕ
+unfolding serials_in
+masked_in blocks serial path = mask_at (content_of blocks) 64 1 serial path
 
 -- one file with these serials, and fifty-nine entries with no file
 abbrev pub one_file : List ℕ → Result (List (List ℕ)) Refused
@@ -148,6 +152,39 @@ all_share_the_first = refl
 pub the_root_was_written : marked_in shares_both 3 [] ≡ Some 7
 unfolding marked_in
 the_root_was_written = refl
+
+pub the_second_copied_it : marked_in shares_both 2 (0 ∷ []) ≡ Some 1
+unfolding marked_in
+the_second_copied_it = refl
+
+-- the third version names the same block without marks
+pub a_shared_page_has_no_marks : marked_in shares_both 3 (0 ∷ []) ≡ Some 0
+unfolding marked_in
+a_shared_page_has_no_marks = refl
+
+-- One file with two versions. The first has a page at `/0` (block 2) and one below it at `/0/1` (block 3), which it wrote with code 5 and
+-- mask 6; the second shares both.
+abbrev pub shares_two_levels : Store
+shares_two_levels =
+    Some (table 64 (entry 1 ∷ []) 59)
+    ∷ Some (version_bytes (version 1 1 0 (Some 4) None (page 0 (own 2) empty_slot [])))
+    ∷ Some (page_bytes (page 1 empty_slot (record { flags = flags_of 5; block = Some 3 }) []))
+    ∷ Some (page_bytes (record (page 2 empty_slot empty_slot (10 ∷ [])) { modified = 6 }))
+    ∷ Some (version_bytes (version 1 2 7 None (Some 1) (page 0 (shared 2) empty_slot [])))
+    ∷ []
+
+pub the_topmost_has_no_marks : marked_in shares_two_levels 2 (0 ∷ []) ≡ Some 0
+unfolding marked_in
+the_topmost_has_no_marks = refl
+
+-- the slot that names it stands in a page of the version before
+pub below_it_marks_stay : marked_in shares_two_levels 2 (0 ∷ 1 ∷ []) ≡ Some 5
+unfolding marked_in
+below_it_marks_stay = refl
+
+pub the_mask_is_read : masked_in shares_two_levels 2 (0 ∷ 1 ∷ []) ≡ Some 6
+unfolding masked_in
+the_mask_is_read = refl
 
 -- ---- refused, each for its cause
 

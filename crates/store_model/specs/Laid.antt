@@ -1,10 +1,10 @@
 -- Versions and files as they lie in blocks.
-use Rattle.std.specs.Prelude.{ℕ, ◌-◌, Bool, false, nat_eq, List, map, filter, find, length, Option, option_map, slice_get}
-use Rattle.ref_flags.specs.Flagged.{Flagged}
+use Rattle.std.specs.Prelude.{ℕ, ◌-◌, Bool, false, nat_eq, List, map, filter, find, length, Option, option_map, slice_get, if◌then◌else◌}
+use Rattle.ref_flags.specs.Flagged.{Flagged, no_flags}
 use Rattle.page_codec.specs.Values.{MemberValue, EntryValue}
 use Rattle.std.specs.Option.{option_map_or}
 use Rattle.afs_base.specs.Path.{is_prefix}
-use Rattle.draft_model.specs.Places.{same}
+use Rattle.page_places.specs.Places.{same}
 
 -- A page of a version: its path, its block, the marks of the reference to it, its mask of modified slots, its data,
 -- and whether the block is its version's own or is shared with the version before.
@@ -29,13 +29,14 @@ pub record LaidFile : Type 0 where
   pub entry : EntryValue
   pub versions : List LaidVersion
 
--- the page of another version
-abbrev pub as_shared : Node → Node
-as_shared node = record node { is_own = false }
+-- A page of another version, shared together with the one at `path`: the slot that names the page at `path` itself has no marks in the later
+-- version; those below it stand in pages of the other version, and keep theirs.
+abbrev pub as_shared : List ℕ → Node → Node
+as_shared path node = record node { flags = (if same path node.path then no_flags else node.flags); is_own = false }
 
 -- the pages at a path and below it, as a later version shares them
 abbrev pub shared_from : List ℕ → List Node → List Node
-shared_from path nodes = map as_shared (filter (λ node. is_prefix path node.path) nodes)
+shared_from path nodes = map (as_shared path) (filter (λ node. is_prefix path node.path) nodes)
 
 -- the page at a path
 abbrev pub page_in : List ℕ → List Node → Option Node

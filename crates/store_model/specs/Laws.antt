@@ -1,13 +1,14 @@
 -- What follows for every store.
 use Rattle.std.specs.Prelude.{◌≡◌, ◌==◌, ℕ, true, nat_eq, List, [], Option, Some, None, option_map, Result, Ok, Err, slice_index, slice_get, if◌then◌else◌}
 use Rattle.std.specs.Option.{option_and_then}
-use Rattle.draft_model.specs.Places.{Store, Holds}
+use Rattle.tree_model.specs.States.{State, IsState}
+use Rattle.page_places.specs.Places.{Store, Holds}
 use Rattle.page_codec.specs.declared.why.Why.{Why}
 use Rattle.page_codec.specs.Values.{PageValue}
 use Rattle.page_codec.specs.Causes.{page_of, version_of}
 use Rattle.std.specs.List.{list_any}
 use Rattle.store_model.specs.Laid.{LaidVersion, LaidFile}
-use Rattle.store_model.specs.Found.{LaidStore, laid, version_in}
+use Rattle.store_model.specs.Found.{LaidStore, laid, version_in, found}
 
 -- two contents agree on block 0 and on these blocks
 pub record AgreeOn (c d : ℕ → Option (List ℕ)) (places : List ℕ) : Type 0 where
@@ -49,3 +50,8 @@ VersionsAreHeld =
     (content : ℕ → Option (List ℕ)) (most : ℕ) (store : LaidStore) (places : List ℕ) → laid content most [] ≡ Ok (store, places)
     → (version : LaidVersion) → IsVersionOf store version
     → Holds (pages_of content) version.block (version_in version).tree
+
+-- What is found is a state: a table of one of the two formats with as many entries as it has; the serials of each file rise by one, its versions
+-- have trees, and the first one has all its paths fresh.
+abbrev pub FoundIsState : Type 0
+FoundIsState = (content : ℕ → Option (List ℕ)) (most : ℕ) (state : State) → found content most ≡ Ok state → IsState state

@@ -8,6 +8,7 @@ pub mod Found
 pub mod Places
 pub mod Laws
 pub mod Changes
+pub mod VersionPages
 pub mod Together
 pub mod Links
 pub mod NewStores

@@ -28,6 +28,11 @@ node_at content most object serial path =
 abbrev pub block_at : (ℕ → Option (List ℕ)) → ℕ → ℕ → ℕ → List ℕ → Option ℕ
 block_at content most object serial path = option_map (λ node. node.block) (node_at content most object serial path)
 
--- the flag code of the reference to it; of `/` that in the version page
+-- The flag code of the reference to it: of `/` that in the version page, of any other page that in the slot of the page above it. Where the
+-- version shares the page with the one before, but not the page above, that code is 0.
 abbrev pub marks_at : (ℕ → Option (List ℕ)) → ℕ → ℕ → ℕ → List ℕ → Option ℕ
 marks_at content most object serial path = option_map (λ node. code_of node.flags) (node_at content most object serial path)
+
+-- the mask of the slots that the update which wrote that page modified
+abbrev pub mask_at : (ℕ → Option (List ℕ)) → ℕ → ℕ → ℕ → List ℕ → Option ℕ
+mask_at content most object serial path = option_map (λ node. node.modified) (node_at content most object serial path)

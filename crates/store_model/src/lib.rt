@@ -2,7 +2,8 @@
 //! what each block holds. There is little code here; what opens a store and what writes one both cite these definitions.
 #![tactic(auto)]
 
-ghost use Rattle.store_model.specs.Laws.{PlacesDecide, VersionsAreHeld};
+ghost use Rattle.store_model.specs.Laws.{PlacesDecide, VersionsAreHeld, FoundIsState};
+ghost use Rattle.store_model.specs.VersionPages.{VersionsHavePages, LastsNameNone, VersionsSharePages};
 ghost use Rattle.store_model.specs.Together.{CommittingAll};
 ghost use Rattle.store_model.specs.Links.{MembersAreLast, LinksAreSet};
 ghost use Rattle.store_model.specs.NewStores.{NewStoreIsFound, ClosedIsRefused};
@@ -18,6 +19,25 @@ pub fn places_decide()
 /// blocks hold its tree, and no other page.
 pub fn versions_are_held()
     ensures { VersionsAreHeld }
+{}
+
+/// Runs nothing. Its contract says that what is found is a state: a table of one of the two formats, with as many entries as it
+/// has, each of which is a file.
+pub fn found_is_a_state()
+    ensures { FoundIsState }
+{}
+
+/// Runs nothing. Its contract says that the block of each version that is found holds its version page: that of its file, with
+/// its serial, its members and its commit reference, which is none at the last version of a file.
+pub fn versions_have_pages()
+    ensures pages { VersionsHavePages }
+    ensures last { LastsNameNone }
+{}
+
+/// Runs nothing. Its contract says that each page that a version shares lies in the block that the version before has at its
+/// path.
+pub fn versions_share_pages()
+    ensures { VersionsSharePages }
 {}
 
 /// Runs nothing. Its contract is the law of links: where a version without a commit reference is followed by another one all
