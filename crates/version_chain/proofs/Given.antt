@@ -22,6 +22,12 @@ MatchesAs found before after o = MatchOption o ((found ≡ false) × (after ≡ 
 given_is : (d : View) (q : List ℕ) (found : Bool) (before after : PageValue) (c : Copied) → d q ≡ Some c → c.live ≡ true → IsGiven d q found before after → (found ≡ true) × (after ≡ c.page)
 given_is d q found before after c here alive given = subst (MatchesAs found before after) (page_is d q c here alive) given
 
+-- the page that was given out has the level of its path
+pub level_given : (d : View) (q : List ℕ) (found : Bool) (before after : PageValue) → HasLevels d → live (copies d) q ≡ true → IsGiven d q found before after → after.level ≡ length q
+level_given d q found before after levels here given =
+    let copy = copied_at d q here in
+    ap (λ (page : PageValue). page.level) (given_is d q found before after copy.0 copy.1 copy.2.live given).1 ∙ levels q copy.0 copy.1
+
 -- the page that was given out, with its slots as they are written
 pub page_made : (d : View) (placed : List Placed) (q : List ℕ) (found : Bool) (before after : PageValue) → HasLevels d → live (copies d) q ≡ true → IsGiven d q found before after
     → (refs : List ReferenceValue) → refs ≡ flushed_slots d placed q 0 after.refs

@@ -5,3 +5,4 @@ pub mod Given
 pub mod Written
 pub mod Writing
 pub mod Whole
+pub mod Below

@@ -11,12 +11,13 @@ use Rattle.page_codec.specs.Bounds.{IsPage, IsVersion}
 use Rattle.page_codec.specs.Spelling.{page_bytes, version_bytes}
 use Rattle.page_codec.proofs.PageLaws.{page_of-page_bytes}
 use Rattle.page_codec.proofs.VersionLaws.{version_of-version_bytes}
+use Rattle.tree_model.specs.Accesses.{written_paths}
 use Rattle.block_map.specs.States.{held_below}
 use Rattle.block_map.specs.declared.states.BlockState.{BlockState}
-use Rattle.draft_model.specs.Places.{same}
+use Rattle.page_places.specs.Places.{same}
 use Rattle.draft_model.specs.Views.{View, copies, live}
 use Rattle.draft_model.specs.Told.{IsFresh, are_rising, is_one_of, AreFresh}
-use Rattle.draft_model.specs.Flush.{Placed, written_paths, IsPlaced, flushed_page, in_turn, is_block_of, are_apart}
+use Rattle.draft_model.specs.Flush.{Placed, IsPlaced, flushed_page, in_turn, is_block_of, are_apart}
 use Rattle.draft_model.proofs.Flushing.{written_told}
 use Rattle.version_chain.specs.Flush.{Plan, Base, paths_of, AreHeld, StartsAtRoot, IsPageFor, flushed_version, IsVersionFor, IsPageBlock, IsVersionBlock, IsWritten}
 use Rattle.version_chain.proofs.Written.{get_more}

@@ -1,5 +1,7 @@
 -- The blocks of a new version, and the order in which they are written.
-use Rattle.std.specs.Prelude.{◌≡◌, ℕ, ◌+◌, ◌<◌, true, List, [], ◌∷◌, ◌++◌, map, length, Option, Some, None, Ok, slice_get}
+use Rattle.std.specs.Prelude.{◌≡◌, ℕ, ◌+◌, ◌<◌, ◌≤◌, true, List, [], ◌∷◌, ◌++◌, map, drop, length, Option, Some, None, Ok, slice_get}
+use Rattle.std.specs.Ordering.{is_le}
+use Rattle.afs_base.specs.Path.{path_cmp}
 use Rattle.block_map.specs.States.{held_below}
 use Rattle.block_map.specs.declared.states.BlockState.{BlockState}
 use Rattle.block_map.specs.declared.states.BlockState.TheVariants.{Held}
@@ -22,6 +24,9 @@ pub record Base : Type 0 where
   pub object : ℕ
   pub serial : ℕ
 
+abbrev pub base_of : ℕ → ℕ → ℕ → Base
+base_of root object serial = record { root = root; object = object; serial = serial }
+
 abbrev pub paths_of : List Placed → List (List ℕ)
 paths_of placed = map (λ x. x.path) placed
 
@@ -30,6 +35,17 @@ abbrev pub AreHeld : List BlockState → ℕ → ℕ → List Placed → Type 0
 AreHeld states client from placed =
     (k : ℕ) (x : Placed) → slice_get placed k ≡ Some x
     → (slice_get states x.block ≡ Some (Held client)) × (held_below client states x.block ≡ from + k)
+
+-- From the place at `next` on stand those of the pages in this slot of the page at `above` and in the slots after it, and what is below
+-- these; no place before it is of one of these pages.
+pub record IsNextBelow (placed : List Placed) (above : List ℕ) (slot next : ℕ) : Type 0 where
+  pub before : (k : ℕ) → slot ≤ k → block_of placed (above ++ k ∷ []) ≡ block_of (drop next placed) (above ++ k ∷ [])
+  pub behind : (k : ℕ) (x : Placed) → next ≤ k → slice_get placed k ≡ Some x → is_le (path_cmp (above ++ slot ∷ []) x.path) ≡ true
+  pub within : next ≤ length placed
+
+-- the place at k is that of a path
+abbrev pub IsPlaceOf : List Placed → ℕ → List ℕ → Type 0
+IsPlaceOf placed k path = (x : Placed) × (slice_get placed k ≡ Some x) × (x.path ≡ path)
 
 -- the place of the page in a slot, where that page is written; then the page above has fewer than seven slots in its path
 abbrev pub FoundBelow : List Placed → List ℕ → ℕ → Option Placed → Type 0

@@ -1,8 +1,10 @@
 ghost use Rattle.std.specs.Prelude.{◌≡◌, ℕ, ◌+◌, ◌<◌, ◌≤◌, ◌^◌, [], true, length, slice_get, MatchOption, OnSome, Some};
 ghost use Rattle.block_map.specs.States.{held_count};
+ghost use Rattle.tree_model.specs.Accesses.{written_paths};
+ghost use Rattle.draft_model.specs.Told.{are_rising};
 ghost use Rattle.draft_model.specs.Views.{copies, live};
-ghost use Rattle.draft_model.specs.Flush.{IsPlaced, written_paths, are_apart, in_turn};
-ghost use Rattle.version_chain.specs.Flush.{paths_of, AreHeld, StartsAtRoot, IsVersionFor, IsWritten, GivesNext, IsDone};
+ghost use Rattle.draft_model.specs.Flush.{IsPlaced, are_apart, in_turn};
+ghost use Rattle.version_chain.specs.Flush.{base_of, paths_of, AreHeld, StartsAtRoot, IsPlaceOf, IsVersionFor, IsWritten, GivesNext, IsDone};
 
 use crate::pages::page_for;
 use crate::place::Place;
@@ -29,7 +31,8 @@ impl Model for Flush {
 
     ghost Value = { Plan };
 
-    ghost view = { λ f. record { placed = f.places.items; members = f.members; written = f.written } };
+    ghost view = { λ f. record
+        { placed = f.places.items; members = f.members; written = f.written } };
 
     ghost invariant = { λ f. f.written ≤ length f.places.items };
 }
@@ -50,12 +53,16 @@ fn version_for<D: Draft>(draft: &D, places: &[Place], members: &Members) -> Vers
     requires ready { D.is_ready draft.now }
     requires serial { D.serial_of draft.now + 1 < 2 ^ 64 }
     requires live { live (copies (D.view draft.now)) [] ≡ true }
-    ensures { IsVersionFor (D.view draft.now) (record { root = D.root_of draft.now; object = D.object_of draft.now; serial = D.serial_of draft.now }) places.now members.now result }
+    requires rising { are_rising (paths_of places.now) ≡ true }
+    requires own { IsPlaceOf places.now 0 [] }
+    ensures { IsVersionFor (D.view draft.now)
+        (base_of (D.root_of draft.now) (D.object_of draft.now) (D.serial_of draft.now))
+        places.now members.now result }
 {
     let root = Path::root();
     VersionPage {
         root: draft.flags(&root).see(Mark::Copy),
-        page: page_for(draft, places, &root),
+        page: page_for(draft, places, 0, &root),
         object: draft.object(),
         serial: draft.serial() + 1,
         commit: None,
@@ -75,7 +82,8 @@ impl Flush {
         members: Members,
     ) -> Flush
         requires ready { D.is_ready draft.now }
-        requires room { from + length (written_paths (D.fresh_of draft.now)) ≤ held_count client map.now }
+        requires room { from + length (written_paths (D.fresh_of draft.now)) ≤ held_count client
+            map.now }
         ensures paths { paths_of result.placed ≡ written_paths (D.fresh_of draft.now) }
         ensures placed { IsPlaced (D.view draft.now) result.placed }
         ensures blocks { AreHeld map.now client from result.placed }
@@ -84,7 +92,6 @@ impl Flush {
         ensures members { result.members ≡ members }
         ensures start { result.written ≡ 0 }
     {
-        let _fresh = draft.fresh_count();
         Flush {
             places: places_of(draft, map, client, from),
             members,
@@ -92,18 +99,20 @@ impl Flush {
         }
     }
 
-    /// The place whose turn it is: the places in their order, but the first one, that of `/`, last. None when all had their turn.
-    fn turn(&self) -> Option<Place>
-        ensures place { MatchOption result (self.now.written ≡ length self.now.placed)
-            (λ place. slice_get (in_turn self.now.placed) self.now.written ≡ Some place) }
-        ensures room { OnSome result ((self.now.written < length self.now.placed) × (self.now.written < 897)) }
+    /// Which place's turn it is: the places in their order, but the first one, that of `/`, last. None when all had their turn.
+    fn turn(&self) -> Option<usize>
+        ensures { MatchOption result (self.now.written ≡ length self.now.placed) (λ own.
+            (self.now.written < length self.now.placed)
+            × (self.now.written < MAX_PLACES) × (own < length self.now.placed)
+            × (slice_get (in_turn self.now.placed) self.now.written
+            ≡ slice_get self.now.placed own)) }
     {
         let places = self.places.as_slice();
         if self.written + 1 < places.len() {
-            return Some(places[self.written + 1]);
+            return Some(self.written + 1);
         }
         if self.written < places.len() {
-            return Some(places[0]);
+            return Some(0);
         }
         None
     }
@@ -118,27 +127,44 @@ impl Flush {
         requires placed { IsPlaced (D.view draft.now) self.old.placed }
         ensures gives { MatchOption result
             (IsDone self.old self.new into.old into.new)
-            (λ block. GivesNext (D.view draft.now) (record { root = D.root_of draft.now; object = D.object_of draft.now; serial = D.serial_of draft.now }) self.old self.new block into.new) }
+            (λ block. GivesNext (D.view draft.now)
+            (base_of (D.root_of draft.now) (D.object_of draft.now) (D.serial_of draft.now))
+            self.old self.new block into.new) }
         ensures same { (self.new.placed ≡ self.old.placed) × (self.new.members ≡ self.old.members) }
     {
-        let place = self.turn()?;
-        self.write(draft, &place.path, into);
+        let own = self.turn()?;
+        let place = self.place(own);
+        self.write(draft, own, &place.path, into);
         self.written += 1;
         Some(place.block)
     }
 
-    /// Writes the page of a live path into a block: of `/` the version page.
-    fn write<D: Draft>(&self, draft: &D, path: &Path, into: &mut Block)
+    /// The place of a number.
+    fn place(&self, own: usize) -> Place
+        requires { own < length self.now.placed }
+        ensures { slice_get self.now.placed own ≡ Some result }
+    {
+        let places = self.places.as_slice();
+        places[own]
+    }
+
+    /// Writes the page of a place into a block: of `/` the version page.
+    fn write<D: Draft>(&self, draft: &D, own: usize, path: &Path, into: &mut Block)
         requires ready { D.is_ready draft.now }
         requires serial { D.serial_of draft.now + 1 < 2 ^ 64 }
         requires live { live (copies (D.view draft.now)) path.now ≡ true }
-        ensures { IsWritten (D.view draft.now) (record { root = D.root_of draft.now; object = D.object_of draft.now; serial = D.serial_of draft.now }) self.now path.now into.new }
+        requires rising { are_rising (paths_of self.now.placed) ≡ true }
+        requires top { IsPlaceOf self.now.placed 0 [] }
+        requires own { IsPlaceOf self.now.placed own path.now }
+        ensures { IsWritten (D.view draft.now)
+            (base_of (D.root_of draft.now) (D.object_of draft.now) (D.serial_of draft.now))
+            self.now path.now into.new }
     {
         let places = self.places.as_slice();
         if path.is_empty() {
             encode_version(&version_for(draft, places, &self.members), into);
         } else {
-            encode_page(&page_for(draft, places, path), into);
+            encode_page(&page_for(draft, places, own, path), into);
         }
     }
 }

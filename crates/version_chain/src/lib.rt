@@ -3,13 +3,12 @@
 
 mod chain;
 mod flush;
-mod head;
 mod laws;
 mod pages;
 mod place;
 mod planning;
 
+pub use afs_base::Head;
 pub use chain::Chain;
 pub use flush::Flush;
-pub use head::Head;
-pub use laws::{next_law, whole_law};
+pub use laws::{next_law, others_law, whole_law};

@@ -1,48 +1,41 @@
 ghost use Rattle.std.specs.Prelude.{◌≡◌, ℕ, ◌+◌, ◌<◌, ◌≤◌, length, slice_get, Some, [], ◌∷◌};
 ghost use Rattle.block_map.specs.States.{held_count, held_below};
 ghost use Rattle.block_map.specs.declared.states.BlockState.TheVariants.{Held};
-ghost use Rattle.draft_model.specs.Flush.{written_paths};
+ghost use Rattle.tree_model.specs.Accesses.{written_paths};
 ghost use Rattle.version_chain.specs.Flush.{paths_of, AreHeld};
 
 use crate::place::Place;
 use afs_base::{BlockNo, ClientNo, Path};
 use arrayvec::ArrayVec;
 use block_map::BlockMap;
-use draft_tree::Draft;
+use draft_tree::{Draft, MAX_FRESH};
 
-/// The most paths that are written: a draft has at most 897 fresh ones, which are `/` and seven for each of its 128 steps.
-pub const MAX_PLACES: usize = 897;
+/// The most paths that are written: the fresh ones, or `/` alone.
+pub const MAX_PLACES: usize = MAX_FRESH;
 
-/// The k-th path that is written: the k-th fresh one, or `/` where none is fresh.
-fn written_path<D: Draft>(draft: &D, fresh: u32, k: u32) -> Path
-    requires ready { D.is_ready draft.now }
-    requires count { fresh ≡ length (D.fresh_of draft.now) }
-    requires below { k < length (written_paths (D.fresh_of draft.now)) }
-    ensures path { slice_get (written_paths (D.fresh_of draft.now)) k ≡ Some result }
-    ensures short { length result ≤ 7 }
+/// The paths that are written, in order: the fresh ones, or `/` where none is fresh.
+fn paths_of<D: Draft>(draft: &D) -> ArrayVec<Path, MAX_PLACES>
+    requires { D.is_ready draft.now }
+    ensures { result.items ≡ written_paths (D.fresh_of draft.now) }
 {
-    let path = if fresh == 0 {
-        Path::root()
-    } else {
-        draft.fresh(k)
-    };
-    let _short = path.len();
-    path
+    let mut paths = ArrayVec::new();
+    draft.list_fresh(&mut paths);
+    if paths.is_empty() {
+        paths.push(Path::root());
+    }
+    paths
 }
 
-/// The k-th block that a client holds. It is not 0, since block 0 is the table.
-fn held_block(map: &BlockMap, client: ClientNo, k: u32) -> BlockNo
-    requires { k < held_count client map.now }
-    ensures held { slice_get map.now result ≡ Some (Held client) }
-    ensures place { held_below client map.now result ≡ k }
-    ensures named { 0 < result }
+/// The block behind one that the client holds.
+fn behind(map: &BlockMap, client: ClientNo, block: BlockNo) -> BlockNo
+    requires { slice_get map.now block ≡ Some (Held client) }
+    ensures { held_below client map.now result ≡ held_below client map.now block + 1 }
 {
-    let block = map.held(client, k);
-    let _held = map.state(block);
-    block
+    let _free = map.free();
+    BlockNo::at(block.get() + 1)
 }
 
-/// The paths that are written, in order, each with the block that it goes to.
+/// The paths that are written, in order, each with the block that it goes to. The map is gone over once.
 pub fn places_of<D: Draft>(
     draft: &D,
     map: &BlockMap,
@@ -50,17 +43,19 @@ pub fn places_of<D: Draft>(
     from: u32,
 ) -> ArrayVec<Place, MAX_PLACES>
     requires ready { D.is_ready draft.now }
-    requires room { from + length (written_paths (D.fresh_of draft.now)) ≤ held_count client map.now }
+    requires room { from + length (written_paths (D.fresh_of draft.now)) ≤ held_count client
+        map.now }
     ensures paths { paths_of result.items ≡ written_paths (D.fresh_of draft.now) }
     ensures blocks { AreHeld map.now client from result.items }
 {
-    let fresh = draft.fresh_count();
-    let _free = map.free();
+    let paths = paths_of(draft);
+    let paths = paths.as_slice();
+    let mut next = map.held(client, from);
     let mut places = ArrayVec::new();
-    'places: for k in 0..fresh.max(1) {
-        let path = written_path(draft, fresh, k);
-        let block = held_block(map, client, from + k);
-        places.push(Place { path, block });
+    'places: for path in paths {
+        let block = map.next_held(client, next);
+        places.push(Place { path: *path, block });
+        next = behind(map, client, block);
     }
     places
 }

@@ -1,6 +1,6 @@
 use Rattle.std.proofs.Common.{◌++◌, ◌∷◌, [], arith, sym, ap, ◌∙◌}
 use Rattle.std.specs.Cmp.Lexicographic.{texts_ties}
-use Rattle.draft_model.specs.Places.{same}
+use Rattle.page_places.specs.Places.{same}
 use Rattle.version_chain.proofs.Places.{apart_by_length, length_child}
 use Rattle.version_chain.proofs.place.is_child.Goals as goal
 

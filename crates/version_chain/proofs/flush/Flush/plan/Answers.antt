@@ -6,5 +6,5 @@ returns-clause-apart g c = apart c.args.map.now c.args.client c.args.from c.plac
 
 pub returns-clause-top : goal.returns-clause-top
 returns-clause-top g c =
-    starts (g.D.Draft.view c.args.draft.now) (g.D.Draft.fresh_of c.args.draft.now) c.places_of.result.items (g.met.D.Draft.top c.args.draft.now c.requires.ready) c.fresh_count-fresh.ensures.fresh
+    starts (g.D.Draft.view c.args.draft.now) (g.D.Draft.fresh_of c.args.draft.now) c.places_of.result.items (g.met.D.Draft.top c.args.draft.now c.requires.ready) (g.met.D.Draft.are_fresh c.args.draft.now c.requires.ready)
     c.places_of.ensures.paths
