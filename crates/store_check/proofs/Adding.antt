@@ -105,9 +105,9 @@ adds_place blocks namer block start =
 abbrev pub own : List Node → ℕ
 own nodes = length (filter (λ node. node.is_own) nodes)
 
-none_shared : (nodes : List Node) → own (map as_shared nodes) ≡ 0
-none_shared [] = refl
-none_shared (node ∷ others) = none_shared others
+none_shared : (path : List ℕ) (nodes : List Node) → own (map (as_shared path) nodes) ≡ 0
+none_shared path [] = refl
+none_shared path (node ∷ others) = none_shared path others
 
 own_append : (xs ys : List Node) → own (xs ++ ys) ≡ own xs + own ys
 own_append xs ys = ap length (filter-append (λ (node : Node). node.is_own) xs ys) ∙ length-append (filter (λ (node : Node). node.is_own) xs) (filter (λ (node : Node). node.is_own) ys)
@@ -137,7 +137,7 @@ module _ (blocks : Blocks) (below : Below) (each : BelowAdds below) where
   adds_named (Some before) namer path reference block =
       adds_if reference.flags.copied _ _ 0 own (λ _. adds_own namer path reference block)
       (λ _. adds_if (lies_at path block before) _ _ 0 own
-      (λ _. adds_done (shared_from path before) 0 own (sym (none_shared (filter (λ (node : Node). is_prefix path node.path) before))))
+      (λ _. adds_done (shared_from path before) 0 own (sym (none_shared path (filter (λ (node : Node). is_prefix path node.path) before))))
       (λ _. adds_refuse namer Reference 0 own))
 
   adds_slot : (before : Option (List Node)) (namer : ℕ) (path : List ℕ) (reference : ReferenceValue) (block : Option ℕ) → Adds (slot_from blocks below before namer path reference block) 0 own

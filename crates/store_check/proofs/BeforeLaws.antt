@@ -8,9 +8,9 @@ use Rattle.page_codec.specs.Values.{PageValue, VersionValue}
 use Rattle.page_codec.specs.Causes.{cause_or, first_cause, page_causes, page_of, version_of}
 use Rattle.page_codec.specs.Reading.{frame_value}
 use Rattle.page_codec.proofs.FactLaws.{PageFacts-none}
-use Rattle.draft_model.specs.Places.{Store, same, slot_block, block_at}
-use Rattle.draft_model.proofs.Facts.{block_at_append}
-use Rattle.drives.specs.declared.device.Half.TheVariants.{A, B}
+use Rattle.page_places.specs.Places.{Store, same, slot_block, block_at}
+use Rattle.page_places.proofs.Facts.{block_at_append}
+use Rattle.drives.specs.declared.device.Half.{Half}
 use Rattle.store_model.specs.Walk.{Refused, content_at, done, refuse}
 use Rattle.store_model.specs.Laid.{Node, LaidVersion, page_in, block_in}
 use Rattle.store_model.specs.Laws.{pages_of, page_of_block, read_of}
@@ -21,7 +21,7 @@ use Rattle.store_check.specs.declared.refused.CheckRefused.TheVariants.{ReadFaul
 use Rattle.store_check.specs.Before.{before_at, page_before, IsNodeHeld, PagesLie, BeforeLies}
 use Rattle.store_check.specs.declared.version.Prior.{Prior}
 use Rattle.store_check.specs.Versions.{prior_of, OneLies}
-use Rattle.store_check.specs.Results.{Stops, IsNoCause}
+use Rattle.store_check.specs.Results.{Stop, StopsBy, Stops, IsNoCauseBy, IsNoCause}
 
 -- the page of the version before in this block
 pub record IsPageBefore (store : Store) (count : ℕ) (nodes : Option (List Node)) (path : List ℕ) (n : ℕ) : Type 0 where
@@ -214,16 +214,18 @@ content_was n None bytes places after e = absurd cc
 content_was n (Some held) bytes places after e = ap (λ r. Some (found_or {X = List ℕ × List ℕ} (held, places) r).0) e
 
 -- a read of a block that holds something has no cause to stop
-pub no_cause : (n : ℕ) (o : Option (List ℕ)) (bytes places : List ℕ) (e : CheckRefused) → o ≡ Some bytes → Stops e (content_at n o places) → IsNoCause e
+pub no_cause : (n : ℕ) (o : Option (List ℕ)) (bytes places : List ℕ) (e : Stop) → o ≡ Some bytes → Stops e (content_at n o places) → IsNoCause e
 unfolding content_at done refuse
 no_cause n None bytes places e is h = absurd cc
-no_cause n (Some held) bytes places (BadStore block why) is h = absurd cc
-no_cause n (Some held) bytes places (ReadFault A) is h = tt
-no_cause n (Some held) bytes places (ReadFault B) is h = never h.0 h.1
+no_cause n (Some held) bytes places e is h = of e.refused e.past h
   where
     never : (e : Refused) → (let r : Result (List ℕ × List ℕ) Refused = Ok (held, places) in r) ≡ Err e → ⊥
     never e is = absurd cc
-no_cause n (Some held) bytes places Memory is h = tt
+
+    of : (e : CheckRefused) (past : Half → Bool) → StopsBy {X = List ℕ} e past (Ok (held, places)) → IsNoCauseBy e past
+    of (BadStore block why) past h = absurd cc
+    of (ReadFault half) past h = λ late. never (h late).0 (h late).1
+    of Memory past h = tt
 
 -- what holds of the pages of the version before, where there is one
 pub one_before : (store : Store) (count : ℕ) (laid : Option LaidVersion) → OneLies store count laid → BeforeLies store count (option_map (λ v. v.nodes) laid)

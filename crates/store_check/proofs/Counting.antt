@@ -1,6 +1,7 @@
 -- The places of a store that is found: how many there are, that none is there twice, and where each is.
 use Rattle.std.proofs.Common.{◌≡◌, ℕ, Bool, true, false, ◌||◌, nat_eq, List, [], ◌∷◌, Result, Ok, Err, refl, sym, ap, subst, ◌∙◌, arith, append-nil}
 use Rattle.std.specs.List.{AllByRecursion, IsDistinct, list_any}
+use Rattle.drives.specs.declared.device.Half.{Half}
 use Rattle.page_codec.specs.Values.{RootValue, TableValue}
 use Rattle.store_model.specs.Walk.{Blocks}
 use Rattle.store_model.specs.Members.{tops_from}
@@ -14,7 +15,7 @@ use Rattle.store_check.specs.declared.refused.CheckRefused.{CheckRefused}
 use Rattle.store_check.specs.declared.checking.Checked.{Checked}
 use Rattle.store_check.specs.declared.checking.Found.{Found}
 use Rattle.store_check.specs.Files.{chains_of}
-use Rattle.store_check.specs.Results.{Shows, Stops}
+use Rattle.store_check.specs.Results.{Shows, StopsBy}
 use Rattle.store_check.specs.Checked.{root_from, walk_from, Answers, IsEnded, LikeTable}
 use Rattle.store_check.proofs.Adding.{adds_walk}
 use Rattle.store_check.proofs.WholeWalk.{laid_is, root_gives}
@@ -70,17 +71,17 @@ places_are_counted content most store places e =
     walk_counted content p.value store places (subst (λ (ns : List ℕ). walk_from (blocks_of content p.value.blocks) p.value ns ≡ Ok (store, places)) none p.second)
 
 -- what a walk over a store shows
-abbrev pub StoreShown : Content → ℕ → RootValue → List ℕ → Result Found CheckRefused → List ℕ → Type 0
-StoreShown content count root places found after =
-    Shows (λ (found : Found) (store : LaidStore). LikeTable found.table store × (found.linked.chains.items ≡ chains_of store.files) × (store.root ≡ root)) found
+abbrev pub StoreShown : (Half → Bool) → Content → ℕ → RootValue → List ℕ → Result Found CheckRefused → List ℕ → Type 0
+StoreShown past content count root places found after =
+    Shows past (λ (found : Found) (store : LaidStore). LikeTable found.table store × (found.linked.chains.items ≡ chains_of store.files) × (store.root ≡ root)) found
     (walk_from (blocks_of content count) root places) after
 
 -- the answer to a walk that ended so
-pub ended_answers : (content : Content) (root : RootValue) (found : Result Found CheckRefused) (count : ℕ) (places : List ℕ) (result : Result Checked CheckRefused) → count ≡ root.blocks
+pub ended_answers : (past : Half → Bool) (content : Content) (root : RootValue) (found : Result Found CheckRefused) (count : ℕ) (places : List ℕ) (result : Result Checked CheckRefused) → count ≡ root.blocks
     → IsEnded found count places result
-    → StoreShown content root.blocks root [] found places
-    → Answers result (walk_from (blocks_of content root.blocks) root [])
-ended_answers content root (Ok found) count places (Ok checked) size ended (store, (table, heads, root_is), is) =
+    → StoreShown past content root.blocks root [] found places
+    → Answers past result (walk_from (blocks_of content root.blocks) root [])
+ended_answers past content root (Ok found) count places (Ok checked) size ended (store, (table, heads, root_is), is) =
     let total = (adds_walk (blocks_of content root.blocks) root).runs [] store places is in
     let blocks : root.blocks ≡ store.root.blocks = ap (λ (r : RootValue). r.blocks) (sym root_is) in (
       store,
@@ -94,6 +95,6 @@ ended_answers content root (Ok found) count places (Ok checked) size ended (stor
         free = Prim.omega (arith, ended.4, total, size, blocks);
       },
     )
-ended_answers content root (Ok found) count places (Err e) size ended shows = absurd ended
-ended_answers content root (Err e) count places (Ok checked) size ended shows = absurd ended
-ended_answers content root (Err e) count places (Err f) size ended shows = subst (λ (g : CheckRefused). Stops g (walk_from (blocks_of content root.blocks) root [])) (sym ended) shows
+ended_answers past content root (Ok found) count places (Err e) size ended shows = absurd ended
+ended_answers past content root (Err e) count places (Ok checked) size ended shows = absurd ended
+ended_answers past content root (Err e) count places (Err f) size ended shows = subst (λ (g : CheckRefused). StopsBy g past (walk_from (blocks_of content root.blocks) root [])) (sym ended) shows

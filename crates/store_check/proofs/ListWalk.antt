@@ -6,7 +6,7 @@ use Rattle.store_model.specs.Walk.{Blocks, Refused, and_then, bind, done, if_som
 use Rattle.store_model.specs.Laid.{LaidFile, LaidVersion}
 use Rattle.store_model.specs.Chains.{chain_at}
 use Rattle.store_model.specs.Tables.{Row as ModelRow, part_rows, parts_from, files_from}
-use Rattle.draft_model.specs.Places.{Store}
+use Rattle.page_places.specs.Places.{Store}
 use Rattle.std.proofs.lemmas.List.{map-append}
 use Rattle.store_check.specs.declared.rows.Row.{Row}
 use Rattle.store_check.specs.declared.chain.Chain.{Chain}

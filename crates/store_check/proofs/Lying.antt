@@ -6,7 +6,7 @@ use Rattle.page_codec.specs.declared.why.Why.TheVariants.{Reference}
 use Rattle.page_codec.specs.Values.{ReferenceValue}
 use Rattle.page_codec.specs.Causes.{version_of}
 use Rattle.afs_base.specs.Path.{is_prefix}
-use Rattle.draft_model.specs.Places.{Store}
+use Rattle.page_places.specs.Places.{Store}
 use Rattle.store_model.specs.Walk.{Blocks, Walk, place}
 use Rattle.store_model.specs.Laid.{Node, LaidVersion, as_shared, shared_from, lies_at}
 use Rattle.store_model.specs.Laws.{pages_of}
@@ -34,7 +34,7 @@ all_shared count path [] h = h
 all_shared count path (x ∷ xs) h = of (is_prefix path x.path) (all_shared count path xs h.1)
   where
     of : (b : Bool) → AllLow count (shared_from path xs)
-        → AllLow count (map as_shared (cond b (x ∷ filter (λ node. is_prefix path node.path) xs) (filter (λ node. is_prefix path node.path) xs)))
+        → AllLow count (map (as_shared path) (cond b (x ∷ filter (λ node. is_prefix path node.path) xs) (filter (λ node. is_prefix path node.path) xs)))
     of true rest = (h.0, rest)
     of false rest = rest
 

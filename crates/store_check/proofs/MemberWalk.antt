@@ -8,9 +8,10 @@ use Rattle.block_map.proofs.Marking.{slice_get-lt}
 use Rattle.std.specs.List.{AllByRecursion, list_any}
 use Rattle.std.specs.Option.{is_none, option_and_then}
 use Rattle.std.proofs.lemmas.Bool.Decides.{nat_tests}
+use Rattle.drives.specs.declared.device.Half.{Half}
 use Rattle.page_codec.specs.declared.why.Why.TheVariants.{Member}
 use Rattle.page_codec.specs.Values.{MemberValue}
-use Rattle.draft_model.specs.Places.{Store}
+use Rattle.page_places.specs.Places.{Store}
 use Rattle.store_model.specs.Walk.{Blocks, Walk, Refused, and_then, bind, done, refuse, check}
 use Rattle.store_model.specs.Laid.{LaidVersion, LaidFile, last_laid}
 use Rattle.store_model.specs.Chains.{version_at}
@@ -27,7 +28,7 @@ use Rattle.store_check.specs.Versions.{prior_of, shown_of, tried_at}
 use Rattle.store_check.specs.Files.{first_serial, unset_base, own_pages, kept_by, chain_of, chains_of, AllLie, FilesLie}
 use Rattle.store_check.specs.Counts.{kept_in}
 use Rattle.store_check.specs.Tops.{LikeLinked, at_object, may_link, prior_in, shown_top, unset_of, with_last}
-use Rattle.store_check.specs.Results.{Stops}
+use Rattle.store_check.specs.Results.{StopsBy}
 use Rattle.store_check.proofs.Lying.{all_append}
 use Rattle.store_check.proofs.VersionWalk.{further}
 use Rattle.store_check.proofs.Adding.{kept_first, kept_longer}
@@ -148,21 +149,21 @@ module _ (blocks : Blocks) (model : ModelTop) (member : MemberValue) (from : Mod
   PriorTold last (Ok prior) =
       (laid : LaidVersion) × (last ≡ Some laid) × (prior ≡ prior_of laid)
       × (member_linked blocks model member from last places ≡ and_then (version_linked blocks model.version.block member laid from.files places) named_too)
-  PriorTold last (Err e) = Stops e (member_linked blocks model member from last places)
+  PriorTold last (Err e) = (past : Half → Bool) → StopsBy e past (member_linked blocks model member from last places)
 
   abbrev top : Top
   top = shown_top model
 
   refused_none : PriorTold None (Err (BadStore model.version.block Member))
   unfolding member_linked refuse
-  refused_none = refl
+  refused_none = λ past. refl
 
   by_test : (laid : LaidVersion) (b : Bool) → (b ≡ may_link model.object member.object (shown_of laid) (list_any (nat_eq member.object) from.named))
       → PriorTold (Some laid) (if b then Ok (prior_of laid) else Err (BadStore model.version.block Member))
   unfolding member_linked bind check refuse done
   by_test laid true e =
       (laid, refl, refl, ap (λ t. and_then ((if t then done t else refuse model.version.block Member) places) (λ _. bind (version_linked blocks model.version.block member laid from.files) named_too)) (sym e))
-  by_test laid false e =
+  by_test laid false e = λ past.
       ap (λ t. and_then ((if t then done t else refuse model.version.block Member) places) (λ _. bind (version_linked blocks model.version.block member laid from.files) named_too)) (sym e)
 
   by_last : (first : ℕ) (unset : Option ℕ) (kept : ℕ) (mark : Option Bool) (l : Option LaidVersion) → ((laid : LaidVersion) → l ≡ Some laid → mark ≡ Some (list_any (nat_eq member.object) from.named))

@@ -4,7 +4,7 @@ use Rattle.std.proofs.Math.Seq.{drop-cons}
 use Rattle.std.proofs.Math.ListN.{drop_of_length-le}
 use Rattle.page_codec.specs.declared.why.Why.TheVariants.{Reference}
 use Rattle.page_codec.specs.Values.{ReferenceValue, PageValue}
-use Rattle.drives.specs.declared.device.Half.TheVariants.{A, B}
+use Rattle.drives.specs.declared.device.Half.{Half}
 use Rattle.store_model.specs.Walk.{Blocks, Refused, and_then, bind, done, refuse}
 use Rattle.store_model.specs.Laid.{Node, block_in, is_block}
 use Rattle.store_model.specs.Pages.{Below, page_at, own_node, own_from, named_from, slot_from, slots_from, pages_below}
@@ -12,7 +12,7 @@ use Rattle.store_check.specs.declared.refused.CheckRefused.{CheckRefused}
 use Rattle.store_check.specs.declared.refused.CheckRefused.TheVariants.{ReadFault, BadStore, Memory}
 use Rattle.store_check.specs.Before.{own_block, before_at, page_before, is_page, is_first}
 use Rattle.store_check.proofs.Passing.{prepended, prepended_nothing, prepended_twice}
-use Rattle.store_check.specs.Results.{Outcome, Stops, ShowsNone}
+use Rattle.store_check.specs.Results.{Outcome, Stop, StopsBy, Stops, ShowsNone}
 
 -- the path of a slot is one longer, and one level less is below it
 pub child_depth : (path : List ℕ) (k d : ℕ) → (d ≡ 0 → ⊥) → length path + d ≡ 7 → length (path ++ k ∷ []) + (d - 1) ≡ 7
@@ -65,29 +65,32 @@ module _ (blocks : Blocks) (below : Below) where
   unfolding own_from bind
   own_refused namer path reference block seen e is = ap (λ r. and_then r (λ page. bind (below block path page.refs) (λ others. done (own_node path reference block page ∷ others)))) is
 
-  own_then : (path : List ℕ) (reference : ReferenceValue) (block : ℕ) (page : PageValue) (after : List ℕ) (result : Result (Unit {0}) CheckRefused) (outcome : Outcome (List Node))
-      → ShowsNone result outcome after → ShowsNone result (and_then outcome (λ others. done (own_node path reference block page ∷ others))) after
+  own_then : (past : Half → Bool) (path : List ℕ) (reference : ReferenceValue) (block : ℕ) (page : PageValue) (after : List ℕ) (result : Result (Unit {0}) CheckRefused) (outcome : Outcome (List Node))
+      → ShowsNone past result outcome after → ShowsNone past result (and_then outcome (λ others. done (own_node path reference block page ∷ others))) after
   unfolding done
-  own_then path reference block page after (Ok x) outcome (nodes, u, is) = (own_node path reference block page ∷ nodes, tt, ap (λ r. and_then r (λ others s. Ok (own_node path reference block page ∷ others, s))) is)
-  own_then path reference block page after (Err (BadStore n why)) outcome is = ap (λ r. and_then r (λ others s. Ok (own_node path reference block page ∷ others, s))) is
-  own_then path reference block page after (Err (ReadFault A)) outcome is = tt
-  own_then path reference block page after (Err (ReadFault B)) outcome is = (is.0, ap (λ r. and_then r (λ others s. Ok (own_node path reference block page ∷ others, s))) is.1)
-  own_then path reference block page after (Err Memory) outcome is = tt
+  own_then past path reference block page after (Ok x) outcome (nodes, u, is) = (own_node path reference block page ∷ nodes, tt, ap (λ r. and_then r (λ others s. Ok (own_node path reference block page ∷ others, s))) is)
+  own_then past path reference block page after (Err (BadStore n why)) outcome is = ap (λ r. and_then r (λ others s. Ok (own_node path reference block page ∷ others, s))) is
+  own_then past path reference block page after (Err (ReadFault half)) outcome is =
+      λ late. ((is late).0, ap (λ r. and_then r (λ others s. Ok (own_node path reference block page ∷ others, s))) (is late).1)
+  own_then past path reference block page after (Err Memory) outcome is = tt
 
   -- a page of the version's own, and the pages below it
-  pub own_shown : (namer : ℕ) (path : List ℕ) (reference : ReferenceValue) (block : ℕ) (page : PageValue) (seen between after : List ℕ) (result : Result (Unit {0}) CheckRefused)
-      → page_at blocks namer block (length path) seen ≡ Ok (page, between) → ShowsNone result (below block path page.refs between) after
-      → ShowsNone result (own_from blocks below namer path reference block seen) after
+  pub own_shown : (past : Half → Bool) (namer : ℕ) (path : List ℕ) (reference : ReferenceValue) (block : ℕ) (page : PageValue) (seen between after : List ℕ) (result : Result (Unit {0}) CheckRefused)
+      → page_at blocks namer block (length path) seen ≡ Ok (page, between) → ShowsNone past result (below block path page.refs between) after
+      → ShowsNone past result (own_from blocks below namer path reference block seen) after
   unfolding own_from bind
-  own_shown namer path reference block page seen between after result is shown =
-      let P : Outcome PageValue → Type 0 = λ r. ShowsNone result (and_then r (λ page. bind (below block path page.refs) (λ others. done (own_node path reference block page ∷ others)))) after in
-      subst P (sym is) (own_then path reference block page after result (below block path page.refs between) shown)
+  own_shown past namer path reference block page seen between after result is shown =
+      let P : Outcome PageValue → Type 0 = λ r. ShowsNone past result (and_then r (λ page. bind (below block path page.refs) (λ others. done (own_node path reference block page ∷ others)))) after in
+      subst P (sym is) (own_then past path reference block page after result (below block path page.refs between) shown)
 
 -- no page is chosen for this cause
-pub chosen_none : (e : CheckRefused) (outcome : Outcome (List Node)) (own : ℕ → Outcome (List Node)) (seen : List ℕ) → Chosen (Err e) outcome own seen → Stops e outcome
-chosen_none (BadStore block why) outcome own seen h = h
-chosen_none (ReadFault half) outcome own seen h = absurd h
-chosen_none Memory outcome own seen h = absurd h
+pub chosen_none : (e : Stop) (outcome : Outcome (List Node)) (own : ℕ → Outcome (List Node)) (seen : List ℕ) → Chosen (Err e.refused) outcome own seen → Stops e outcome
+chosen_none e outcome own seen h = of e.refused e.past h
+  where
+    of : (e : CheckRefused) (past : Half → Bool) → Chosen (Err e) outcome own seen → StopsBy e past outcome
+    of (BadStore block why) past h = h
+    of (ReadFault half) past h = absurd h
+    of Memory past h = absurd h
 
 module _ (blocks : Blocks) (below : Below) (before : Option (List Node)) (namer : ℕ) (path : List ℕ) where
   -- the walk over all slots has come to this one

@@ -4,8 +4,8 @@ use Rattle.page_codec.specs.declared.why.Why.{Why}
 use Rattle.page_codec.specs.declared.why.Why.TheVariants.{Member, Blocks as TooMany}
 use Rattle.page_codec.specs.Values.{EntryValue, MemberValue, RootValue, TableValue}
 use Rattle.page_codec.specs.TableReading.{root_of}
-use Rattle.draft_model.specs.Places.{Store}
-use Rattle.drives.specs.declared.device.Half.TheVariants.{A, B}
+use Rattle.page_places.specs.Places.{Store}
+use Rattle.drives.specs.declared.device.Half.{Half}
 use Rattle.store_model.specs.Walk.{Blocks, Walk, Refused, and_then, bind, done, refuse, check, decoded, content_at}
 use Rattle.store_model.specs.Laid.{LaidVersion, LaidFile}
 use Rattle.store_model.specs.Tables.{Row as ModelRow, table_rows, files_from}
@@ -201,19 +201,19 @@ ended_error (Err d) count places (Err f) e is h =
     let same : f ≡ e = cc in
     ap Err (sym is ∙ same)
 
-pub answers_as : (result : Result Checked CheckRefused) (o p : Outcome LaidStore) → p ≡ o → Answers result o → Answers result p
-answers_as result o p same h = let P : Outcome LaidStore → Type 0 = λ q. Answers result q in subst P (sym same) h
+pub answers_as : (past : Half → Bool) (result : Result Checked CheckRefused) (o p : Outcome LaidStore) → p ≡ o → Answers past result o → Answers past result p
+answers_as past result o p same h = let P : Outcome LaidStore → Type 0 = λ q. Answers past result q in subst P (sym same) h
 
 -- what a walk over all of a store shows, from what its last part shows
 pub store_shown :
-    (blocks : Blocks) (root : RootValue) (places : List ℕ) (rows : List Row) (s1 : List ℕ) (rows_are : table_rows blocks root places ≡ Ok (map row_of rows, s1))
+    (past : Half → Bool) (blocks : Blocks) (root : RootValue) (places : List ℕ) (rows : List Row) (s1 : List ℕ) (rows_are : table_rows blocks root places ≡ Ok (map row_of rows, s1))
     (files : List LaidFile) (s2 : List ℕ) (files_are : files_from blocks 1 (map row_of rows) s1 ≡ Ok (files, s2))
     (table : TableValue) → table.format ≡ root.format → table.blocks ≡ root.blocks → table.key ≡ root.key → table.parts ≡ root.parts → table.entries ≡ map (λ (row : Row). row.entry) rows
     → (result : Result Found CheckRefused) (after : List ℕ)
-    → Shows (λ (found : Found) (linked : ModelLinked). (found.table ≡ table) × (found.linked.chains.items ≡ chains_of linked.files)) result
+    → Shows past (λ (found : Found) (linked : ModelLinked). (found.table ≡ table) × (found.linked.chains.items ≡ chains_of linked.files)) result
     (tops_linked blocks (tops_from 1 files) (record { files = files; named = [] }) s2) after
-    → Shows (λ (found : Found) (store : LaidStore). LikeTable found.table store × (found.linked.chains.items ≡ chains_of store.files) × (store.root ≡ root)) result (walk_from blocks root places) after
-store_shown blocks root places rows s1 rows_are files s2 files_are table format size key parts all (Ok found) after (linked, (same, heads), is) = (
+    → Shows past (λ (found : Found) (store : LaidStore). LikeTable found.table store × (found.linked.chains.items ≡ chains_of store.files) × (store.root ≡ root)) result (walk_from blocks root places) after
+store_shown past blocks root places rows s1 rows_are files s2 files_are table format size key parts all (Ok found) after (linked, (same, heads), is) = (
   record { root = root; files = linked.files },
   (
     record {
@@ -228,9 +228,8 @@ store_shown blocks root places rows s1 rows_are files s2 files_are table format 
   ),
   walk_ends blocks root places (map row_of rows) s1 rows_are files s2 files_are linked after is,
 )
-store_shown blocks root places rows s1 rows_are files s2 files_are table format size key parts all (Err (BadStore n why)) after is =
+store_shown past blocks root places rows s1 rows_are files s2 files_are table format size key parts all (Err (BadStore n why)) after is =
     tops_stop_all blocks root places (map row_of rows) s1 rows_are files s2 files_are (record { block = n; why = why }) is
-store_shown blocks root places rows s1 rows_are files s2 files_are table format size key parts all (Err (ReadFault A)) after is = tt
-store_shown blocks root places rows s1 rows_are files s2 files_are table format size key parts all (Err (ReadFault B)) after is =
-    (is.0, tops_stop_all blocks root places (map row_of rows) s1 rows_are files s2 files_are is.0 is.1)
-store_shown blocks root places rows s1 rows_are files s2 files_are table format size key parts all (Err Memory) after is = tt
+store_shown past blocks root places rows s1 rows_are files s2 files_are table format size key parts all (Err (ReadFault half)) after is =
+    λ late. ((is late).0, tops_stop_all blocks root places (map row_of rows) s1 rows_are files s2 files_are (is late).0 (is late).1)
+store_shown past blocks root places rows s1 rows_are files s2 files_are table format size key parts all (Err Memory) after is = tt

@@ -3,7 +3,7 @@ use Rattle.std.specs.Prelude.{◌≡◌, ◌==◌, ℕ, ◌<◌, ◌++◌, Bool,
 use Rattle.std.specs.List.{AllByRecursion}
 use Rattle.page_codec.specs.declared.why.Why.TheVariants.{Reference}
 use Rattle.page_codec.specs.Values.{PageValue, ReferenceValue}
-use Rattle.draft_model.specs.Places.{Store, block_at}
+use Rattle.page_places.specs.Places.{Store, block_at}
 use Rattle.store_model.specs.Laid.{Node, block_in}
 use Rattle.store_check.specs.declared.before.Before.{Before}
 use Rattle.store_check.specs.declared.before.Before.TheVariants.{NoVersion, NoPage, Page}

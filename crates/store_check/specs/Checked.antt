@@ -1,5 +1,6 @@
 -- The check of a store, and what it answers.
-use Rattle.std.specs.Prelude.{◌≡◌, ℕ, ◌+◌, ◌<◌, nat_le, List, [], map, length, Option, Some, Result, Ok, Err}
+use Rattle.std.specs.Prelude.{◌≡◌, ℕ, ◌+◌, ◌<◌, nat_le, Bool, List, [], map, length, Option, Some, Result, Ok, Err}
+use Rattle.drives.specs.declared.device.Half.{Half}
 use Rattle.page_codec.specs.declared.why.Why.TheVariants.{Blocks as TooMany}
 use Rattle.page_codec.specs.Values.{RootValue, TableValue}
 use Rattle.page_codec.specs.TableReading.{root_of}
@@ -49,10 +50,11 @@ pub record LikeStore (checked : Checked) (store : LaidStore) (places : List ℕ)
   pub heads : checked.heads.items ≡ chains_of store.files
   pub free : free_count checked.map + 1 + parts_in store.root + kept_in store.files ≡ store.root.blocks
 
--- the answer is the store that is found, or the first cause; a fault and want of memory say nothing
-abbrev pub Answers : Result Checked CheckRefused → Outcome LaidStore → Type 0
-Answers (Ok checked) outcome = (store : LaidStore) × (places : List ℕ) × (outcome ≡ Ok (store, places)) × LikeStore checked store places
-Answers (Err e) outcome = Stops e outcome
+-- The answer is the store that is found, or the first cause. After a fault of a half that was not in the last call of a device there is a cause
+-- too; a fault in the last call and want of memory say nothing.
+abbrev pub Answers : (Half → Bool) → Result Checked CheckRefused → Outcome LaidStore → Type 0
+Answers past (Ok checked) outcome = (store : LaidStore) × (places : List ℕ) × (outcome ≡ Ok (store, places)) × LikeStore checked store places
+Answers past (Err e) outcome = Stops (record { refused = e; past = past }) outcome
 
 -- block 0 is settled, and where it is a table, every block of the store is
 pub record IsMended (settled : ℕ → Type 0) (content : ℕ → Option (List ℕ)) (size : ℕ) : Type 0 where

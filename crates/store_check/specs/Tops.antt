@@ -3,7 +3,7 @@ use Rattle.std.specs.Prelude.{◌≡◌, ◌==◌, ◌&&◌, ◌+◌, ◌-◌, �
 use Rattle.std.specs.List.{list_any}
 use Rattle.std.specs.Option.{is_none}
 use Rattle.page_codec.specs.declared.why.Why.TheVariants.{Member}
-use Rattle.draft_model.specs.Places.{Store}
+use Rattle.page_places.specs.Places.{Store}
 use Rattle.store_model.specs.Members.{Top as ModelTop, Linked as ModelLinked}
 use Rattle.store_check.specs.declared.refused.CheckRefused.{CheckRefused}
 use Rattle.store_check.specs.declared.refused.CheckRefused.TheVariants.{BadStore}

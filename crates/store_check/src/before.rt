@@ -70,7 +70,8 @@ fn fill_befores(refs: &[Reference], befores: &mut [Before])
 
 /// What the version before has at the slots of its page.
 pub fn befores_of(refs: &[Reference; SLOTS]) -> [Before; SLOTS]
-    ensures { (k : ℕ) → k < 16 → slice_get result k ≡ Some (page_before (option_and_then (λ r. r.block) (slice_get refs.now k))) }
+    ensures { (k : ℕ) → k < 16 → slice_get result k ≡ Some
+        (page_before (option_and_then (λ r. r.block) (slice_get refs.now k))) }
 {
     let mut befores = all_before(Before::NoPage);
     fill_befores(refs, &mut befores);
@@ -88,7 +89,7 @@ pub fn own_block(
     match reference.block {
         None => Ok(None),
         Some(block) => {
-            if before.is_first() | reference.flags.copied() {
+            if before.is_first() || reference.flags.copied() {
                 Ok(Some(block))
             } else if before.is_page(block) {
                 Ok(None)

@@ -6,7 +6,7 @@ ghost use Rattle.store_model.specs.Laws.{pages_of};
 ghost use Rattle.store_model.specs.Chains.{chain_at, chain_from, version_at};
 ghost use Rattle.store_check.specs.Before.{PagesLie};
 ghost use Rattle.store_check.specs.Versions.{shown_of};
-ghost use Rattle.store_check.specs.Since.{IsUnreadSince};
+ghost use Rattle.store_check.specs.Since.{IsUnreadSince, is_past};
 ghost use Rattle.store_check.specs.Surveyed.{IsTold, blocks_in};
 ghost use Rattle.store_check.specs.declared.refused.CheckRefused.{CheckRefused};
 ghost use Rattle.store_check.specs.Results.{Shows};
@@ -40,12 +40,17 @@ fn next_at<B: Blocks>(
 ) -> Result<FoundVersion, CheckRefused>
     ensures began { survey.new.began ≡ survey.old.began }
     ensures count { survey.new.count ≡ survey.old.count }
-    ensures walk { IsTold B.tells B.settled survey.old → (laid : LaidVersion)
-        → PagesLie (pages_of (B.content survey.old.began)) survey.old.count laid.block laid.nodes → last.now ≡ shown_of laid
-        → Shows (λ version (found : LaidVersion). (version ≡ shown_of found) × PagesLie (pages_of (B.content survey.old.began)) survey.old.count found.block found.nodes) result
-        (version_at (blocks_in B.content survey.old) object laid.block n (Some laid) survey.old.list) survey.new.list }
+    ensures walk { IsTold B.Blocks survey.old → (laid : LaidVersion)
+        → PagesLie (pages_of (B.content survey.old.began)) survey.old.count laid.block laid.nodes
+        → last.now ≡ shown_of laid
+        → Shows (is_past B.Blocks survey.new.store)
+        (λ version (found : LaidVersion). (version ≡ shown_of found)
+        × PagesLie (pages_of (B.content survey.old.began)) survey.old.count found.block found.nodes)
+        result
+        (version_at (blocks_in B.content survey.old) object laid.block n
+        (Some laid) survey.old.list) survey.new.list }
     ensures unread { (h : Half) → IsErrOf result (CheckRefused.ReadFault h)
-        → IsUnreadSince B.tells B.moment B.content B.settled B.faults B.last_fault survey.new.began survey.new.store h }
+        → IsUnreadSince B.Blocks survey.new.began survey.new.store h }
 {
     let before = Some(Prior {
         serial: last.serial,
@@ -62,12 +67,15 @@ fn last_from<B: Blocks>(
 ) -> Result<FoundVersion, CheckRefused>
     ensures began { survey.new.began ≡ survey.old.began }
     ensures count { survey.new.count ≡ survey.old.count }
-    ensures walk { IsTold B.tells B.settled survey.old → (laid : LaidVersion)
-        → PagesLie (pages_of (B.content survey.old.began)) survey.old.count laid.block laid.nodes → first ≡ shown_of laid
-        → Shows (LikeVersions (pages_of (B.content survey.old.began)) survey.old.count laid.serial) result
-        (chain_from (blocks_in B.content survey.old) object survey.old.count laid survey.old.list) survey.new.list }
+    ensures walk { IsTold B.Blocks survey.old → (laid : LaidVersion)
+        → PagesLie (pages_of (B.content survey.old.began)) survey.old.count laid.block laid.nodes
+        → first ≡ shown_of laid
+        → Shows (is_past B.Blocks survey.new.store)
+        (LikeVersions (pages_of (B.content survey.old.began)) survey.old.count laid.serial) result
+        (chain_from (blocks_in B.content survey.old) object survey.old.count laid survey.old.list)
+        survey.new.list }
     ensures unread { (h : Half) → IsErrOf result (CheckRefused.ReadFault h)
-        → IsUnreadSince B.tells B.moment B.content B.settled B.faults B.last_fault survey.new.began survey.new.store h }
+        → IsUnreadSince B.Blocks survey.new.began survey.new.store h }
 {
     let mut last = first;
     'versions: for _step in 0..survey.count() {
@@ -76,6 +84,7 @@ fn last_from<B: Blocks>(
             Some(n) => last = next_at(survey, object, &last, n)?,
         }
     }
+    // Each version is a new place, so a chain has ended before as many steps as there are blocks.
     Ok(last)
 }
 
@@ -88,11 +97,13 @@ pub fn chain_at<B: Blocks>(
 ) -> Result<Chain, CheckRefused>
     ensures began { survey.new.began ≡ survey.old.began }
     ensures count { survey.new.count ≡ survey.old.count }
-    ensures walk { IsTold B.tells B.settled survey.old
-        → Shows (λ chain (versions : List LaidVersion). (Some chain ≡ chain_of versions) × AllLie (pages_of (B.content survey.old.began)) survey.old.count versions) result
+    ensures walk { IsTold B.Blocks survey.old
+        → Shows (is_past B.Blocks survey.new.store)
+        (λ chain (versions : List LaidVersion). (Some chain ≡ chain_of versions)
+        × AllLie (pages_of (B.content survey.old.began)) survey.old.count versions) result
         (chain_at (blocks_in B.content survey.old) object namer n survey.old.list) survey.new.list }
     ensures unread { (h : Half) → IsErrOf result (CheckRefused.ReadFault h)
-        → IsUnreadSince B.tells B.moment B.content B.settled B.faults B.last_fault survey.new.began survey.new.store h }
+        → IsUnreadSince B.Blocks survey.new.began survey.new.store h }
 {
     let found = survey.found();
     let first = version_at(survey, object, namer, n, &None)?;

@@ -5,7 +5,7 @@ ghost use Rattle.store_model.specs.Laid.{LaidFile};
 ghost use Rattle.store_model.specs.Laws.{pages_of};
 ghost use Rattle.store_model.specs.Members.{Linked as ModelLinked, tops_from, tops_linked};
 ghost use Rattle.store_model.specs.Found.{LaidStore, laid};
-ghost use Rattle.store_check.specs.Since.{IsUnreadSince, OnlyRead};
+ghost use Rattle.store_check.specs.Since.{IsUnreadSince, OnlyRead, is_past};
 ghost use Rattle.store_check.specs.Surveyed.{IsTold, blocks_in};
 ghost use Rattle.store_check.specs.declared.refused.CheckRefused.{CheckRefused};
 ghost use Rattle.store_check.specs.Results.{Shows, Walks};
@@ -21,10 +21,11 @@ use crate::refused::CheckRefused;
 use crate::rows::{Row, root_block, table_rows};
 use crate::survey::Survey;
 use crate::tops::{Linked, link_tops, tops_of};
+use afs_base::Memory;
 use block_map::BlockMap;
 use page_codec::{Table, TableRoot, Why, decode_root};
 use pair_store::Blocks;
-use std::alloc::{AllocError, Global};
+use std::alloc::Global;
 
 /// A lawful store: its table, which blocks are in use, and what is kept of the file of each object where it is live.
 #[derive(Drop)]
@@ -40,9 +41,11 @@ fn read_root<B: Blocks>(reading: &mut Reading<B>, most: u32) -> Result<TableRoot
     requires { 0 < B.size reading.old.began }
     ensures began { reading.new.began ≡ reading.old.began }
     ensures fits { IfOk result (λ root. root.blocks ≤ most) }
-    ensures walk { B.tells → B.settled reading.old.began 0 → Walks (λ root. root) result (root_from (B.content reading.old.began) most []) [] }
+    ensures walk { B.tells → B.settled reading.old.began 0
+        → Walks (is_past B.Blocks reading.new.store) (λ root. root) result
+        (root_from (B.content reading.old.began) most []) [] }
     ensures unread { (h : Half) → IsErrOf result (CheckRefused.ReadFault h)
-        → IsUnreadSince B.tells B.moment B.content B.settled B.faults B.last_fault reading.new.began reading.new.store h }
+        → IsUnreadSince B.Blocks reading.new.began reading.new.store h }
 {
     let block = reading.read(root_block())?;
     match decode_root(&block) {
@@ -79,7 +82,7 @@ fn fill_table(table: &mut Table, rows: &[Row])
 }
 
 /// The table with all its entries.
-fn table_of(alloc: Global, root: &TableRoot, rows: &[Row]) -> Result<Table, AllocError>
+fn table_of(alloc: Global, root: &TableRoot, rows: &[Row]) -> Result<Table, Memory>
     requires one { root.now.format ≡ 1 → map (λ row. row.entry) rows.now ≡ root.now.first }
     requires two { root.now.format ≢ 1 → length rows.now ≡ 4032 }
     ensures format { IfOk result (λ t. t.format ≡ root.now.format) }
@@ -103,10 +106,10 @@ struct Found {
 }
 
 /// No object was named yet.
-fn none_named(alloc: Global, count: usize) -> Result<Vec<bool>, AllocError>
+fn none_named(alloc: Global, count: usize) -> Result<Vec<bool>, Memory>
     ensures { IfOk result (λ named. named.items ≡ replicate count false) }
 {
-    vec![in alloc; false; count]
+    Ok(vec![in alloc; false; count]?)
 }
 
 /// The files of a store with the members that are to be linked.
@@ -119,12 +122,16 @@ fn link_files<B: Blocks>(
     requires { length chains.items ≤ 4032 }
     ensures began { survey.new.began ≡ survey.old.began }
     ensures count { survey.new.count ≡ survey.old.count }
-    ensures walk { IsTold B.tells B.settled survey.old → (files : List LaidFile)
-        → LikeFiles (pages_of (B.content survey.old.began)) survey.old.count chains.items files → kept_in files ≤ length survey.old.list
-        → Shows (λ found (linked : ModelLinked). (found.table ≡ table) × (found.linked.chains.items ≡ chains_of linked.files)) result
-        (tops_linked (blocks_in B.content survey.old) (tops_from 1 files) (record { files = files; named = [] }) survey.old.list) survey.new.list }
+    ensures walk { IsTold B.Blocks survey.old → (files : List LaidFile)
+        → LikeFiles (pages_of (B.content survey.old.began)) survey.old.count chains.items files
+        → kept_in files ≤ length survey.old.list
+        → Shows (is_past B.Blocks survey.new.store)
+        (λ found (linked : ModelLinked). (found.table ≡ table)
+        × (found.linked.chains.items ≡ chains_of linked.files)) result
+        (tops_linked (blocks_in B.content survey.old) (tops_from 1 files)
+        (record { files = files; named = [] }) survey.old.list) survey.new.list }
     ensures unread { (h : Half) → IsErrOf result (CheckRefused.ReadFault h)
-        → IsUnreadSince B.tells B.moment B.content B.settled B.faults B.last_fault survey.new.began survey.new.store h }
+        → IsUnreadSince B.Blocks survey.new.began survey.new.store h }
 {
     let tops = tops_of(alloc, chains.as_slice())?;
     let named = none_named(alloc, chains.len())?;
@@ -141,11 +148,13 @@ fn walk<B: Blocks>(
 ) -> Result<Found, CheckRefused>
     ensures began { survey.new.began ≡ survey.old.began }
     ensures count { survey.new.count ≡ survey.old.count }
-    ensures walk { IsTold B.tells B.settled survey.old
-        → Shows (λ found (store : LaidStore). LikeTable found.table store × (found.linked.chains.items ≡ chains_of store.files) × (store.root ≡ root.now)) result
+    ensures walk { IsTold B.Blocks survey.old
+        → Shows (is_past B.Blocks survey.new.store)
+        (λ found (store : LaidStore). LikeTable found.table store
+        × (found.linked.chains.items ≡ chains_of store.files) × (store.root ≡ root.now)) result
         (walk_from (blocks_in B.content survey.old) root.now survey.old.list) survey.new.list }
     ensures unread { (h : Half) → IsErrOf result (CheckRefused.ReadFault h)
-        → IsUnreadSince B.tells B.moment B.content B.settled B.faults B.last_fault survey.new.began survey.new.store h }
+        → IsUnreadSince B.Blocks survey.new.began survey.new.store h }
 {
     let rows = table_rows(survey, alloc, root)?;
     let table = table_of(alloc, root, rows.as_slice())?;
@@ -173,7 +182,7 @@ fn ended<B: Blocks>(
     survey: Survey<B>,
     found: Result<Found, CheckRefused>,
 ) -> (B, Result<Checked, CheckRefused>)
-    ensures only { OnlyRead B.tells B.size B.moment B.content B.may_leave B.settled B.settled_always B.faults B.last_fault survey.began result.0 }
+    ensures only { OnlyRead B.Blocks survey.began result.0 }
     ensures store { result.0 ≡ survey.store }
     ensures answer { IsEnded found survey.count survey.list result.1 }
     ensures fits { IfOk result.1 (λ checked. length checked.map ≤ B.size survey.began) }
@@ -192,12 +201,14 @@ fn walk_store<B: Blocks>(
     root: &TableRoot,
 ) -> (B, Result<Checked, CheckRefused>)
     requires { root.now.blocks ≤ B.size reading.began }
-    ensures only { OnlyRead B.tells B.size B.moment B.content B.may_leave B.settled B.settled_always B.faults B.last_fault reading.began result.0 }
+    ensures only { OnlyRead B.Blocks reading.began result.0 }
     ensures fits { IfOk result.1 (λ checked. length checked.map ≤ B.size reading.began) }
     ensures answer { B.tells → ((n : ℕ) → n < root.now.blocks → B.settled reading.began n)
-        → Answers result.1 (walk_from (record { content = B.content reading.began; count = root.now.blocks }) root.now []) }
+        → Answers (is_past B.Blocks result.0) result.1
+        (walk_from (record { content = B.content reading.began; count = root.now.blocks }) root.now
+        []) }
     ensures unread { (h : Half) → IsErrOf result.1 (CheckRefused.ReadFault h)
-        → IsUnreadSince B.tells B.moment B.content B.settled B.faults B.last_fault reading.began result.0 h }
+        → IsUnreadSince B.Blocks reading.began result.0 h }
 {
     match Places::make(alloc, root.blocks) {
         Err(_) => (reading.into_store(), Err(CheckRefused::Memory)),
@@ -211,12 +222,12 @@ fn walk_store<B: Blocks>(
 
 /// Checks which files a store holds. It reads each place once, and each page that a later version copied once more, and writes nothing.
 pub fn check<B: Blocks>(alloc: Global, store: B) -> (B, Result<Checked, CheckRefused>)
-    ensures only { OnlyRead B.tells B.size B.moment B.content B.may_leave B.settled B.settled_always B.faults B.last_fault store result.0 }
+    ensures only { OnlyRead B.Blocks store result.0 }
     ensures fits { IfOk result.1 (λ checked. length checked.map ≤ B.size store) }
     ensures answer { B.tells → IsMended (B.settled store) (B.content store) (B.size store)
-        → Answers result.1 (laid (B.content store) (B.size store) []) }
+        → Answers (is_past B.Blocks result.0) result.1 (laid (B.content store) (B.size store) []) }
     ensures unread { (h : Half) → IsErrOf result.1 (CheckRefused.ReadFault h)
-        → IsUnreadSince B.tells B.moment B.content B.settled B.faults B.last_fault store result.0 h }
+        → IsUnreadSince B.Blocks store result.0 h }
 {
     let most = store.blocks();
     let mut reading = Reading::of(store);

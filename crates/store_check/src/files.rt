@@ -6,7 +6,7 @@ ghost use Rattle.store_model.specs.Laid.{LaidFile, LaidVersion};
 ghost use Rattle.store_model.specs.Laws.{pages_of};
 ghost use Rattle.store_model.specs.Chains.{chain_at};
 ghost use Rattle.store_model.specs.Tables.{files_from};
-ghost use Rattle.store_check.specs.Since.{IsUnreadSince};
+ghost use Rattle.store_check.specs.Since.{IsUnreadSince, is_past};
 ghost use Rattle.store_check.specs.Surveyed.{IsTold, blocks_in};
 ghost use Rattle.store_check.specs.declared.refused.CheckRefused.{CheckRefused};
 ghost use Rattle.store_check.specs.Results.{Shows};
@@ -29,11 +29,15 @@ fn file_at<B: Blocks>(
 ) -> Result<Option<Chain>, CheckRefused>
     ensures began { survey.new.began ≡ survey.old.began }
     ensures count { survey.new.count ≡ survey.old.count }
-    ensures walk { IsTold B.tells B.settled survey.old
-        → Shows (λ chain (versions : List LaidVersion). (chain ≡ chain_of versions) × AllLie (pages_of (B.content survey.old.began)) survey.old.count versions) result
-        (if_some row.now.entry.first (chain_at (blocks_in B.content survey.old) object row.now.block) survey.old.list) survey.new.list }
+    ensures walk { IsTold B.Blocks survey.old
+        → Shows (is_past B.Blocks survey.new.store)
+        (λ chain (versions : List LaidVersion). (chain ≡ chain_of versions)
+        × AllLie (pages_of (B.content survey.old.began)) survey.old.count versions) result
+        (if_some row.now.entry.first
+        (chain_at (blocks_in B.content survey.old) object row.now.block) survey.old.list)
+        survey.new.list }
     ensures unread { (h : Half) → IsErrOf result (CheckRefused.ReadFault h)
-        → IsUnreadSince B.tells B.moment B.content B.settled B.faults B.last_fault survey.new.began survey.new.store h }
+        → IsUnreadSince B.Blocks survey.new.began survey.new.store h }
 {
     let entry = &row.entry;
     match entry.first {
@@ -54,12 +58,15 @@ pub fn files_from<B: Blocks>(
     requires { length rows.now ≤ 4032 }
     ensures began { survey.new.began ≡ survey.old.began }
     ensures count { survey.new.count ≡ survey.old.count }
-    ensures walk { IsTold B.tells B.settled survey.old
-        → Shows (λ chains (files : List LaidFile). LikeFiles (pages_of (B.content survey.old.began)) survey.old.count chains.items files) result
-        (files_from (blocks_in B.content survey.old) 1 (map row_of rows.now) survey.old.list) survey.new.list }
+    ensures walk { IsTold B.Blocks survey.old
+        → Shows (is_past B.Blocks survey.new.store)
+        (λ chains (files : List LaidFile). LikeFiles
+        (pages_of (B.content survey.old.began)) survey.old.count chains.items files) result
+        (files_from (blocks_in B.content survey.old) 1
+        (map row_of rows.now) survey.old.list) survey.new.list }
     ensures size { IfOk result (λ chains. length chains.items ≡ length rows.now) }
     ensures unread { (h : Half) → IsErrOf result (CheckRefused.ReadFault h)
-        → IsUnreadSince B.tells B.moment B.content B.settled B.faults B.last_fault survey.new.began survey.new.store h }
+        → IsUnreadSince B.Blocks survey.new.began survey.new.store h }
 {
     let mut chains = Vec::new(alloc);
     'files: for i in 0..rows.len() {

@@ -6,7 +6,7 @@ ghost use Rattle.store_model.specs.Laid.{Node};
 ghost use Rattle.store_model.specs.Laws.{pages_of};
 ghost use Rattle.store_model.specs.Pages.{page_at, pages_below, slot_from};
 ghost use Rattle.store_check.specs.Before.{AreBefore, BeforeLies, before_at};
-ghost use Rattle.store_check.specs.Since.{IsUnreadSince};
+ghost use Rattle.store_check.specs.Since.{IsUnreadSince, is_past};
 ghost use Rattle.store_check.specs.Surveyed.{IsTold, blocks_in};
 ghost use Rattle.store_check.specs.declared.refused.CheckRefused.{CheckRefused};
 ghost use Rattle.store_check.specs.Results.{Gets, Shows, ShowsNone};
@@ -26,12 +26,15 @@ fn page_befores<B: Blocks>(
     ensures began { survey.new.began ≡ survey.old.began }
     ensures count { survey.new.count ≡ survey.old.count }
     ensures list { survey.new.list ≡ survey.old.list }
-    ensures befores { IsTold B.tells B.settled survey.old → (nodes : Option (List Node)) (path : List ℕ)
-        → BeforeLies (pages_of (B.content survey.old.began)) survey.old.count nodes → 1 ≤ length path
-        → before_at nodes path ≡ Before.Page n → Gets (AreBefore nodes path) result }
+    ensures befores { IsTold B.Blocks survey.old → (nodes : Option (List Node)) (path : List ℕ)
+        → BeforeLies (pages_of (B.content survey.old.began)) survey.old.count nodes
+        → 1 ≤ length path
+        → before_at nodes path ≡ Before.Page n
+        → Gets (is_past B.Blocks survey.new.store) (AreBefore nodes path) result }
     ensures unread { (h : Half) → IsErrOf result (CheckRefused.ReadFault h)
-        → IsUnreadSince B.tells B.moment B.content B.settled B.faults B.last_fault survey.new.began survey.new.store h }
+        → IsUnreadSince B.Blocks survey.new.began survey.new.store h }
 {
+    // No contract says what files hold, so a page that is read again may name any number by now.
     if n.get() >= survey.count() {
         return Err(CheckRefused::BadStore {
             block: n,
@@ -56,11 +59,13 @@ fn slot_befores<B: Blocks>(
     ensures began { survey.new.began ≡ survey.old.began }
     ensures count { survey.new.count ≡ survey.old.count }
     ensures list { survey.new.list ≡ survey.old.list }
-    ensures befores { IsTold B.tells B.settled survey.old → (nodes : Option (List Node)) (path : List ℕ)
-        → BeforeLies (pages_of (B.content survey.old.began)) survey.old.count nodes → 1 ≤ length path
-        → before_at nodes path ≡ before.now → Gets (AreBefore nodes path) result }
+    ensures befores { IsTold B.Blocks survey.old → (nodes : Option (List Node)) (path : List ℕ)
+        → BeforeLies (pages_of (B.content survey.old.began)) survey.old.count nodes
+        → 1 ≤ length path
+        → before_at nodes path ≡ before.now
+        → Gets (is_past B.Blocks survey.new.store) (AreBefore nodes path) result }
     ensures unread { (h : Half) → IsErrOf result (CheckRefused.ReadFault h)
-        → IsUnreadSince B.tells B.moment B.content B.settled B.faults B.last_fault survey.new.began survey.new.store h }
+        → IsUnreadSince B.Blocks survey.new.began survey.new.store h }
 {
     match before {
         Before::Page(n) => page_befores(survey, *n),
@@ -81,14 +86,17 @@ fn slot_pages<B: Blocks>(
     requires { depth < 7 }
     ensures began { survey.new.began ≡ survey.old.began }
     ensures count { survey.new.count ≡ survey.old.count }
-    ensures walk { IsTold B.tells B.settled survey.old → (nodes : Option (List Node)) (path : List ℕ)
-        → BeforeLies (pages_of (B.content survey.old.began)) survey.old.count nodes → length path + depth ≡ 7
+    ensures walk { IsTold B.Blocks survey.old → (nodes : Option (List Node)) (path : List ℕ)
+        → BeforeLies (pages_of (B.content survey.old.began)) survey.old.count nodes
+        → length path + depth ≡ 7
         → before_at nodes path ≡ before.now
-        → ShowsNone result
-        (slot_from (blocks_in B.content survey.old) (pages_below (blocks_in B.content survey.old) nodes depth) nodes namer path reference.now reference.now.block survey.old.list)
+        → ShowsNone (is_past B.Blocks survey.new.store) result
+        (slot_from (blocks_in B.content survey.old)
+        (pages_below (blocks_in B.content survey.old) nodes depth) nodes namer path reference.now
+        reference.now.block survey.old.list)
         survey.new.list }
     ensures unread { (h : Half) → IsErrOf result (CheckRefused.ReadFault h)
-        → IsUnreadSince B.tells B.moment B.content B.settled B.faults B.last_fault survey.new.began survey.new.store h }
+        → IsUnreadSince B.Blocks survey.new.began survey.new.store h }
 {
     match own_block(namer, reference, before)? {
         None => Ok(()),
@@ -112,12 +120,15 @@ pub fn pages_below<B: Blocks>(
     requires { depth ≤ 7 }
     ensures began { survey.new.began ≡ survey.old.began }
     ensures count { survey.new.count ≡ survey.old.count }
-    ensures walk { IsTold B.tells B.settled survey.old → (nodes : Option (List Node)) (path : List ℕ)
-        → BeforeLies (pages_of (B.content survey.old.began)) survey.old.count nodes → length path + depth ≡ 7
+    ensures walk { IsTold B.Blocks survey.old → (nodes : Option (List Node)) (path : List ℕ)
+        → BeforeLies (pages_of (B.content survey.old.began)) survey.old.count nodes
+        → length path + depth ≡ 7
         → AreBefore nodes path befores.now
-        → ShowsNone result (pages_below (blocks_in B.content survey.old) nodes depth namer path refs.now survey.old.list) survey.new.list }
+        → ShowsNone (is_past B.Blocks survey.new.store) result
+        (pages_below (blocks_in B.content survey.old) nodes depth namer path refs.now
+        survey.old.list) survey.new.list }
     ensures unread { (h : Half) → IsErrOf result (CheckRefused.ReadFault h)
-        → IsUnreadSince B.tells B.moment B.content B.settled B.faults B.last_fault survey.new.began survey.new.store h }
+        → IsUnreadSince B.Blocks survey.new.began survey.new.store h }
 {
     if depth == 0 {
         return Ok(());

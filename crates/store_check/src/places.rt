@@ -5,9 +5,9 @@ ghost use Rattle.block_map.specs.States.{free_count};
 ghost use Rattle.store_check.specs.Marks.{Marks};
 
 use crate::listed::Listed;
-use afs_base::BlockNo;
+use afs_base::{BlockNo, Memory};
 use block_map::{BlockMap, BlockState};
-use std::alloc::{AllocError, Global};
+use std::alloc::Global;
 use std::marker::Model;
 
 /// Which blocks of a store are places. Clauses see how many blocks there are, and the places, the newest first.
@@ -27,12 +27,13 @@ impl Model for Places {
 
     ghost view = { λ p. record { count = p.count; list = p.list } };
 
-    ghost invariant = { λ p. (length p.map ≡ p.count) × Marks p.list p.map × (free_count p.map + 1 + length p.list ≡ p.count) };
+    ghost invariant = { λ p. (length p.map ≡ p.count) × Marks p.list p.map
+        × (free_count p.map + 1 + length p.list ≡ p.count) };
 }
 
 impl Places {
     /// No places yet, in a store of so many blocks.
-    pub fn make(alloc: Global, blocks: u32) -> Result<Places, AllocError>
+    pub fn make(alloc: Global, blocks: u32) -> Result<Places, Memory>
         requires least { 2 ≤ blocks }
         requires most { blocks ≤ 65536 }
         ensures count { IfOk result (λ places. places.count ≡ blocks) }

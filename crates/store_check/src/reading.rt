@@ -1,8 +1,8 @@
 // A store of blocks that is read and not written.
-ghost use Rattle.std.specs.Prelude.{◌≡◌, ◌<◌, ℕ, List, None, Some, IfErr, IsErrOf, OnOk};
+ghost use Rattle.std.specs.Prelude.{◌≡◌, ◌<◌, ℕ, true, List, None, Some, IfErr, IsErrOf, OnOk};
 ghost use Rattle.drives.specs.declared.device.Half.{Half};
 ghost use Rattle.store_model.specs.Walk.{content_at};
-ghost use Rattle.store_check.specs.Since.{OnlyRead, IsUnreadSince};
+ghost use Rattle.store_check.specs.Since.{OnlyRead, IsUnreadSince, is_past};
 ghost use Rattle.pair_store.specs.declared.fault.PairFault.{PairFault};
 ghost use Rattle.pair_store.specs.Answers.{IsReadFault};
 ghost use Rattle.store_check.specs.Results.{refused_read};
@@ -27,7 +27,7 @@ impl<B: Blocks> Model for Reading<B> {
 
     ghost view = { λ r. record { store = r.store; began = r.began.value } };
 
-    ghost invariant = { λ r. OnlyRead B.tells B.size B.moment B.content B.may_leave B.settled B.settled_always B.faults B.last_fault r.began.value r.store };
+    ghost invariant = { λ r. OnlyRead B.Blocks r.began.value r.store };
 }
 
 impl<B: Blocks> Reading<B> {
@@ -46,7 +46,7 @@ impl<B: Blocks> Reading<B> {
     /// The store, of which blocks were read alone.
     pub fn into_store(self) -> B
         ensures store { result ≡ self.store }
-        ensures only { OnlyRead B.tells B.size B.moment B.content B.may_leave B.settled B.settled_always B.faults B.last_fault self.began result }
+        ensures only { OnlyRead B.Blocks self.began result }
     {
         let Reading { store, began: _ } = self;
         store
@@ -57,12 +57,16 @@ impl<B: Blocks> Reading<B> {
         requires { n < B.size self.old.began }
         ensures began { self.new.began ≡ self.old.began }
         ensures only { IfErr result (IsReadFault n) }
-        ensures given { B.tells → B.settled self.old.began n → OnOk result (B.content self.old.began n ≡ Some into.new) }
-        ensures closed { B.tells → IsErrOf result (PairFault.BothClosed n) → B.content self.old.began n ≡ None }
-        // Half B is named only where half A was read and found closed.
-        ensures shut { B.tells → B.settled self.old.began n → IsErrOf result (PairFault.ReadFault Half.B) → B.content self.old.began n ≡ None }
+        ensures given { B.tells → B.settled self.old.began n
+            → OnOk result (B.content self.old.began n ≡ Some into.new) }
+        ensures closed { B.tells → IsErrOf result (PairFault.BothClosed n)
+            → B.content self.old.began n ≡ None }
+        // Where a call came after a fault of the half, the other half was read and found closed.
+        ensures shut { B.tells → B.settled self.old.began n → (h : Half)
+            → IsErrOf result (PairFault.ReadFault h) → is_past B.Blocks self.new.store h ≡ true
+            → B.content self.old.began n ≡ None }
         ensures unread { (h : Half) → IsErrOf result (PairFault.ReadFault h)
-            → IsUnreadSince B.tells B.moment B.content B.settled B.faults B.last_fault self.old.began self.new.store h }
+            → IsUnreadSince B.Blocks self.old.began self.new.store h }
     {
         self.store.read(n, into)
     }
@@ -72,9 +76,11 @@ impl<B: Blocks> Reading<B> {
     pub fn read(&mut self, n: BlockNo) -> Result<Block, CheckRefused>
         requires { n < B.size self.old.began }
         ensures began { self.new.began ≡ self.old.began }
-        ensures walk { B.tells → B.settled self.old.began n → (places : List ℕ) → Walks (λ b. b) result (content_at n (B.content self.old.began n) places) places }
+        ensures walk { B.tells → B.settled self.old.began n → (places : List ℕ)
+            → Walks (is_past B.Blocks self.new.store) (λ b. b) result
+            (content_at n (B.content self.old.began n) places) places }
         ensures unread { (h : Half) → IsErrOf result (CheckRefused.ReadFault h)
-            → IsUnreadSince B.tells B.moment B.content B.settled B.faults B.last_fault self.old.began self.new.store h }
+            → IsUnreadSince B.Blocks self.old.began self.new.store h }
     {
         let mut block = [0; 1024];
         match self.read_into(n, &mut block) {

@@ -1,8 +1,8 @@
-// Why a store is not opened.
+// Why a store is not checked.
 ghost use Rattle.std.specs.Prelude.{◌≡◌};
 ghost use Rattle.store_check.specs.declared.refused.CheckRefused.TheVariants.{Memory};
 
-use afs_base::BlockNo;
+use afs_base::{BlockNo, Memory as NoMemory};
 use drives::Half;
 use page_codec::Why;
 use std::alloc::{AllocError, AllocFailed};
@@ -11,7 +11,7 @@ use thiserror::Error;
 /// Why the check of a store gave no answer, or that it is not lawful.
 #[derive(Clone, Copy, Debug, PartialEq, Eq, Error)]
 pub enum CheckRefused {
-    /// The half failed in a read, and the other half failed too or has no content.
+    /// The half failed in a read, and no open half was read in its place.
     #[error("half {half:?} failed in a read")]
     ReadFault { half: Half },
     /// The store is not lawful: the first cause, and its block.
@@ -20,6 +20,14 @@ pub enum CheckRefused {
     /// There is not enough memory.
     #[error("out of memory")]
     Memory,
+}
+
+impl From<NoMemory> for CheckRefused {
+    ghost from_gives = { λ _ e. e ≡ Memory };
+
+    fn from(_e: NoMemory) -> CheckRefused {
+        CheckRefused::Memory
+    }
 }
 
 impl From<AllocError> for CheckRefused {

@@ -1,9 +1,9 @@
 // The table of a store, and the entries that it has.
-ghost use Rattle.std.specs.Prelude.{◌≡◌, ◌≢◌, ◌≤◌, ◌*◌, map, length, replicate, IsErrOf, IfOk, Some};
+ghost use Rattle.std.specs.Prelude.{◌≡◌, ◌≢◌, ◌<◌, ◌≤◌, ◌*◌, map, length, replicate, IsErrOf, IfOk, Some};
 ghost use Rattle.drives.specs.declared.device.Half.{Half};
 ghost use Rattle.page_codec.specs.Blank.{no_entry};
 ghost use Rattle.store_model.specs.Tables.{part_rows, parts_from, rows_in, table_rows};
-ghost use Rattle.store_check.specs.Since.{IsUnreadSince};
+ghost use Rattle.store_check.specs.Since.{IsUnreadSince, is_past};
 ghost use Rattle.store_check.specs.Surveyed.{IsTold, blocks_in};
 ghost use Rattle.store_check.specs.declared.refused.CheckRefused.{CheckRefused};
 ghost use Rattle.store_check.specs.Results.{Walks};
@@ -11,10 +11,10 @@ ghost use Rattle.store_check.specs.Rows.{row_of};
 
 use crate::refused::CheckRefused;
 use crate::survey::{Survey, place};
-use afs_base::BlockNo;
+use afs_base::{BlockNo, Memory, PARTS};
 use page_codec::{PART_ENTRIES, TableEntry, TableRoot, decode_part};
 use pair_store::Blocks;
-use std::alloc::{AllocError, Global};
+use std::alloc::Global;
 
 /// An entry, and the block of the table that has it.
 #[derive(Clone, Copy, Debug)]
@@ -27,14 +27,11 @@ pub struct Row {
 pub fn root_block() -> BlockNo
     ensures { result ≡ 0 }
 {
-    match BlockNo::of(0) {
-        Ok(block) => block,
-        Err(_) => unreachable!(),
-    }
+    BlockNo::at(0)
 }
 
 /// These entries of this block.
-fn rows_from(alloc: Global, block: BlockNo, entries: &[TableEntry]) -> Result<Vec<Row>, AllocError>
+fn rows_from(alloc: Global, block: BlockNo, entries: &[TableEntry]) -> Result<Vec<Row>, Memory>
     ensures rows { IfOk result (λ rows. map row_of rows.items ≡ rows_in block entries.now) }
     ensures entries { IfOk result (λ rows. map (λ row. row.entry) rows.items ≡ entries.now) }
     ensures size { IfOk result (λ rows. length rows.items ≡ length entries.now) }
@@ -64,13 +61,15 @@ fn read_part<B: Blocks>(
     j: u8,
     n: BlockNo,
 ) -> Result<Vec<Row>, CheckRefused>
+    requires { j < PARTS }
     ensures began { survey.new.began ≡ survey.old.began }
     ensures count { survey.new.count ≡ survey.old.count }
-    ensures walk { IsTold B.tells B.settled survey.old
-        → Walks (λ rows. map row_of rows.items) result (part_rows (blocks_in B.content survey.old) j (Some n) survey.old.list) survey.new.list }
+    ensures walk { IsTold B.Blocks survey.old
+        → Walks (is_past B.Blocks survey.new.store) (λ rows. map row_of rows.items) result
+        (part_rows (blocks_in B.content survey.old) j (Some n) survey.old.list) survey.new.list }
     ensures size { IfOk result (λ rows. length rows.items ≡ 63) }
     ensures unread { (h : Half) → IsErrOf result (CheckRefused.ReadFault h)
-        → IsUnreadSince B.tells B.moment B.content B.settled B.faults B.last_fault survey.new.began survey.new.store h }
+        → IsUnreadSince B.Blocks survey.new.began survey.new.store h }
 {
     let block = place(survey, root_block(), n)?;
     match decode_part(&block, j) {
@@ -90,13 +89,15 @@ fn part_rows<B: Blocks>(
     j: u8,
     part: &Option<BlockNo>,
 ) -> Result<Vec<Row>, CheckRefused>
+    requires { j < PARTS }
     ensures began { survey.new.began ≡ survey.old.began }
     ensures count { survey.new.count ≡ survey.old.count }
-    ensures walk { IsTold B.tells B.settled survey.old
-        → Walks (λ rows. map row_of rows.items) result (part_rows (blocks_in B.content survey.old) j part.now survey.old.list) survey.new.list }
+    ensures walk { IsTold B.Blocks survey.old
+        → Walks (is_past B.Blocks survey.new.store) (λ rows. map row_of rows.items) result
+        (part_rows (blocks_in B.content survey.old) j part.now survey.old.list) survey.new.list }
     ensures size { IfOk result (λ rows. length rows.items ≡ 63) }
     ensures unread { (h : Half) → IsErrOf result (CheckRefused.ReadFault h)
-        → IsUnreadSince B.tells B.moment B.content B.settled B.faults B.last_fault survey.new.began survey.new.store h }
+        → IsUnreadSince B.Blocks survey.new.began survey.new.store h }
 {
     match part {
         None => Ok(rows_from(alloc, root_block(), &no_part_entries())?),
@@ -113,11 +114,12 @@ fn all_parts<B: Blocks>(
     requires { length parts.now ≤ 64 }
     ensures began { survey.new.began ≡ survey.old.began }
     ensures count { survey.new.count ≡ survey.old.count }
-    ensures walk { IsTold B.tells B.settled survey.old
-        → Walks (λ rows. map row_of rows.items) result (parts_from (blocks_in B.content survey.old) 0 parts.now survey.old.list) survey.new.list }
+    ensures walk { IsTold B.Blocks survey.old
+        → Walks (is_past B.Blocks survey.new.store) (λ rows. map row_of rows.items) result
+        (parts_from (blocks_in B.content survey.old) 0 parts.now survey.old.list) survey.new.list }
     ensures size { IfOk result (λ rows. length rows.items ≡ 63 * length parts.now) }
     ensures unread { (h : Half) → IsErrOf result (CheckRefused.ReadFault h)
-        → IsUnreadSince B.tells B.moment B.content B.settled B.faults B.last_fault survey.new.began survey.new.store h }
+        → IsUnreadSince B.Blocks survey.new.began survey.new.store h }
 {
     let mut rows = Vec::new(alloc);
     'parts: for j in 0..parts.len() {
@@ -136,13 +138,15 @@ pub fn table_rows<B: Blocks>(
 ) -> Result<Vec<Row>, CheckRefused>
     ensures began { survey.new.began ≡ survey.old.began }
     ensures count { survey.new.count ≡ survey.old.count }
-    ensures walk { IsTold B.tells B.settled survey.old
-        → Walks (λ rows. map row_of rows.items) result (table_rows (blocks_in B.content survey.old) root.now survey.old.list) survey.new.list }
-    ensures one { root.now.format ≡ 1 → IfOk result (λ rows. map (λ row. row.entry) rows.items ≡ root.now.first) }
+    ensures walk { IsTold B.Blocks survey.old
+        → Walks (is_past B.Blocks survey.new.store) (λ rows. map row_of rows.items) result
+        (table_rows (blocks_in B.content survey.old) root.now survey.old.list) survey.new.list }
+    ensures one { root.now.format ≡ 1
+        → IfOk result (λ rows. map (λ row. row.entry) rows.items ≡ root.now.first) }
     ensures two { root.now.format ≢ 1 → IfOk result (λ rows. length rows.items ≡ 4032) }
     ensures most { IfOk result (λ rows. length rows.items ≤ 4032) }
     ensures unread { (h : Half) → IsErrOf result (CheckRefused.ReadFault h)
-        → IsUnreadSince B.tells B.moment B.content B.settled B.faults B.last_fault survey.new.began survey.new.store h }
+        → IsUnreadSince B.Blocks survey.new.began survey.new.store h }
 {
     if root.format == 1 {
         Ok(rows_from(alloc, root_block(), &root.first)?)

@@ -6,7 +6,7 @@ ghost use Rattle.block_map.specs.States.{free_count};
 ghost use Rattle.page_codec.specs.Causes.{page_of};
 ghost use Rattle.store_model.specs.Walk.{place, add, bind, content_at};
 ghost use Rattle.store_model.specs.Pages.{page_at};
-ghost use Rattle.store_check.specs.Since.{IsUnreadSince, OnlyRead};
+ghost use Rattle.store_check.specs.Since.{IsUnreadSince, OnlyRead, is_past};
 ghost use Rattle.store_check.specs.Surveyed.{IsTold, blocks_in};
 ghost use Rattle.store_check.specs.declared.refused.CheckRefused.{CheckRefused};
 ghost use Rattle.store_check.specs.Results.{Walks};
@@ -33,7 +33,13 @@ impl<B: Blocks> Model for Survey<B> {
 
     ghost Value = { SurveyValue B };
 
-    ghost view = { λ s. record { began = s.reading.began; store = s.reading.store; count = s.places.count; list = s.places.list } };
+    ghost view = { λ s. record {
+      began = s.reading.began;
+      store = s.reading.store;
+      count =
+          s.places.count;
+      list = s.places.list;
+    } };
 
     ghost invariant = { λ s. s.places.count ≤ B.size s.reading.began };
 }
@@ -53,7 +59,7 @@ impl<B: Blocks> Survey<B> {
     /// The store, and the map of its blocks.
     pub fn into_parts(self) -> (B, BlockMap)
         ensures store { result.0 ≡ self.store }
-        ensures only { OnlyRead B.tells B.size B.moment B.content B.may_leave B.settled B.settled_always B.faults B.last_fault self.began result.0 }
+        ensures only { OnlyRead B.Blocks self.began result.0 }
         ensures size { length result.1 ≡ self.count }
         ensures marks { Marks self.list result.1 }
         ensures free { free_count result.1 + 1 + length self.list ≡ self.count }
@@ -92,9 +98,11 @@ impl<B: Blocks> Survey<B> {
         ensures began { self.new.began ≡ self.old.began }
         ensures count { self.new.count ≡ self.old.count }
         ensures list { self.new.list ≡ self.old.list }
-        ensures walk { IsTold B.tells B.settled self.old → (places : List ℕ) → Walks (λ b. b) result (content_at n (B.content self.old.began n) places) places }
+        ensures walk { IsTold B.Blocks self.old → (places : List ℕ)
+            → Walks (is_past B.Blocks self.new.store) (λ b. b) result
+            (content_at n (B.content self.old.began n) places) places }
         ensures unread { (h : Half) → IsErrOf result (CheckRefused.ReadFault h)
-            → IsUnreadSince B.tells B.moment B.content B.settled B.faults B.last_fault self.new.began self.new.store h }
+            → IsUnreadSince B.Blocks self.new.began self.new.store h }
     {
         self.reading.read(n)
     }
@@ -107,9 +115,12 @@ impl<B: Blocks> Survey<B> {
         requires new { list_any (nat_eq n) self.old.list ≡ false }
         ensures began { self.new.began ≡ self.old.began }
         ensures count { self.new.count ≡ self.old.count }
-        ensures walk { IsTold B.tells B.settled self.old → Walks (λ b. b) result (bind (add n) (λ _. content_at n (B.content self.old.began n)) self.old.list) self.new.list }
+        ensures walk { IsTold B.Blocks self.old
+            → Walks (is_past B.Blocks self.new.store) (λ b. b) result
+            (bind (add n) (λ _. content_at n
+            (B.content self.old.began n)) self.old.list) self.new.list }
         ensures unread { (h : Half) → IsErrOf result (CheckRefused.ReadFault h)
-            → IsUnreadSince B.tells B.moment B.content B.settled B.faults B.last_fault self.new.began self.new.store h }
+            → IsUnreadSince B.Blocks self.new.began self.new.store h }
     {
         self.places.add(n);
         self.read(n)
@@ -125,9 +136,11 @@ pub fn place<B: Blocks>(
 ) -> Result<Block, CheckRefused>
     ensures began { survey.new.began ≡ survey.old.began }
     ensures count { survey.new.count ≡ survey.old.count }
-    ensures walk { IsTold B.tells B.settled survey.old → Walks (λ b. b) result (place (blocks_in B.content survey.old) namer n survey.old.list) survey.new.list }
+    ensures walk { IsTold B.Blocks survey.old
+        → Walks (is_past B.Blocks survey.new.store) (λ b. b) result
+        (place (blocks_in B.content survey.old) namer n survey.old.list) survey.new.list }
     ensures unread { (h : Half) → IsErrOf result (CheckRefused.ReadFault h)
-        → IsUnreadSince B.tells B.moment B.content B.settled B.faults B.last_fault survey.new.began survey.new.store h }
+        → IsUnreadSince B.Blocks survey.new.began survey.new.store h }
 {
     if n.get() < 1 || n.get() >= survey.count() {
         return Err(CheckRefused::BadStore {
@@ -154,9 +167,11 @@ pub fn page_at<B: Blocks>(
 ) -> Result<Page, CheckRefused>
     ensures began { survey.new.began ≡ survey.old.began }
     ensures count { survey.new.count ≡ survey.old.count }
-    ensures walk { IsTold B.tells B.settled survey.old → Walks (λ page. page) result (page_at (blocks_in B.content survey.old) namer n level survey.old.list) survey.new.list }
+    ensures walk { IsTold B.Blocks survey.old
+        → Walks (is_past B.Blocks survey.new.store) (λ page. page) result
+        (page_at (blocks_in B.content survey.old) namer n level survey.old.list) survey.new.list }
     ensures unread { (h : Half) → IsErrOf result (CheckRefused.ReadFault h)
-        → IsUnreadSince B.tells B.moment B.content B.settled B.faults B.last_fault survey.new.began survey.new.store h }
+        → IsUnreadSince B.Blocks survey.new.began survey.new.store h }
 {
     let block = place(survey, namer, n)?;
     match decode_page(&block) {

@@ -10,7 +10,7 @@ ghost use Rattle.store_model.specs.Laws.{pages_of};
 ghost use Rattle.store_model.specs.Chains.{version_at};
 ghost use Rattle.store_model.specs.Members.{Top as ModelTop, Linked as ModelLinked, last_in, names_none, version_linked, member_linked, members_linked, tops_linked};
 ghost use Rattle.store_check.specs.Before.{PagesLie};
-ghost use Rattle.store_check.specs.Since.{IsUnreadSince};
+ghost use Rattle.store_check.specs.Since.{IsUnreadSince, is_past};
 ghost use Rattle.store_check.specs.Surveyed.{IsTold, blocks_in};
 ghost use Rattle.store_check.specs.declared.refused.CheckRefused.{CheckRefused};
 ghost use Rattle.store_check.specs.Results.{Shows};
@@ -23,10 +23,10 @@ use crate::chain::Chain;
 use crate::refused::CheckRefused;
 use crate::survey::Survey;
 use crate::version::{FoundVersion, Prior, version_at};
-use afs_base::BlockNo;
+use afs_base::{BlockNo, Memory};
 use page_codec::{Member, Members, Why};
 use pair_store::Blocks;
-use std::alloc::{AllocError, Global};
+use std::alloc::Global;
 
 /// An object whose last version names members, the block of that version, and the members.
 #[derive(Debug, Drop)]
@@ -56,7 +56,12 @@ fn copy_of(members: &Members) -> Members
 /// The object, as a top where its last version names members.
 fn top_of(object: u32, version: &FoundVersion) -> Option<Top>
     ensures { MatchOption result (length version.now.members ≡ 0)
-        (λ top. (length version.now.members ≢ 0) × (top ≡ record { object = object; block = version.now.block; members = version.now.members })) }
+        (λ top. (length version.now.members ≢ 0)
+        × (top ≡ record {
+          object = object;
+          block = version.now.block;
+          members = version.now.members;
+        })) }
 {
     if version.members.is_empty() {
         return None;
@@ -69,7 +74,7 @@ fn top_of(object: u32, version: &FoundVersion) -> Option<Top>
 }
 
 /// Adds the object to the tops, where it is one.
-fn push_top(tops: &mut Vec<Top>, object: u32, chain: &Option<Chain>) -> Result<(), AllocError>
+fn push_top(tops: &mut Vec<Top>, object: u32, chain: &Option<Chain>) -> Result<(), Memory>
     ensures { OnOk result (tops.new.items ≡ tops.old.items ++ top_in object chain.now) }
 {
     match chain {
@@ -82,7 +87,7 @@ fn push_top(tops: &mut Vec<Top>, object: u32, chain: &Option<Chain>) -> Result<(
 }
 
 /// The tops, ascending.
-pub fn tops_of(alloc: Global, chains: &[Option<Chain>]) -> Result<Vec<Top>, AllocError>
+pub fn tops_of(alloc: Global, chains: &[Option<Chain>]) -> Result<Vec<Top>, Memory>
     requires { length chains.now ≤ 4032 }
     ensures { IfOk result (λ tops. tops.items ≡ tops_in 1 chains.now) }
 {
@@ -97,7 +102,7 @@ pub fn tops_of(alloc: Global, chains: &[Option<Chain>]) -> Result<Vec<Top>, Allo
 fn is_last(version: &FoundVersion) -> bool
     ensures { result ≡ (is_none version.now.commit && length version.now.members == 0) }
 {
-    version.commit.is_none() & version.members.is_empty()
+    version.commit.is_none() && version.members.is_empty()
 }
 
 /// A member of a top that is not linked yet: it is tried as the next version of its file.
@@ -110,12 +115,17 @@ fn tried_member<B: Blocks>(
 ) -> Result<FoundVersion, CheckRefused>
     ensures began { survey.new.began ≡ survey.old.began }
     ensures count { survey.new.count ≡ survey.old.count }
-    ensures walk { IsTold B.tells B.settled survey.old → (laid : LaidVersion)
-        → PagesLie (pages_of (B.content survey.old.began)) survey.old.count laid.block laid.nodes → before.now ≡ Some (prior_of laid)
-        → Shows (λ version (found : LaidVersion). (version ≡ shown_of found) × PagesLie (pages_of (B.content survey.old.began)) survey.old.count found.block found.nodes) result
-        (tried_at (blocks_in B.content survey.old) object namer n laid survey.old.list) survey.new.list }
+    ensures walk { IsTold B.Blocks survey.old → (laid : LaidVersion)
+        → PagesLie (pages_of (B.content survey.old.began)) survey.old.count laid.block laid.nodes
+        → before.now ≡ Some (prior_of laid)
+        → Shows (is_past B.Blocks survey.new.store)
+        (λ version (found : LaidVersion). (version ≡ shown_of found)
+        × PagesLie (pages_of (B.content survey.old.began)) survey.old.count found.block found.nodes)
+        result
+        (tried_at (blocks_in B.content survey.old) object namer n laid survey.old.list)
+        survey.new.list }
     ensures unread { (h : Half) → IsErrOf result (CheckRefused.ReadFault h)
-        → IsUnreadSince B.tells B.moment B.content B.settled B.faults B.last_fault survey.new.began survey.new.store h }
+        → IsUnreadSince B.Blocks survey.new.began survey.new.store h }
 {
     let version = version_at(survey, object, namer, n, before)?;
     if !is_last(&version) {
@@ -131,7 +141,7 @@ fn tried_member<B: Blocks>(
 fn may_link(top: u32, object: u32, last: &FoundVersion, mark: bool) -> bool
     ensures { result ≡ may_link top object last.now mark }
 {
-    (object != top) & last.members.is_empty() & !mark
+    object != top && last.members.is_empty() && !mark
 }
 
 /// The last version of an object that is kept so, where it may be a member of the top.
@@ -170,7 +180,8 @@ fn prior_at(
     named: &[bool],
 ) -> Result<Prior, CheckRefused>
     requires { length named.now ≡ length chains.now }
-    ensures value { result ≡ prior_in top.now object (at_object object chains.now) (at_object object named.now) }
+    ensures value { result ≡ prior_in top.now object (at_object object chains.now)
+        (at_object object named.now) }
     ensures range { IfOk result (λ _. (1 ≤ object) × (object ≤ length chains.now)) }
     ensures only { (h : Half) → IsErrOf result (CheckRefused.ReadFault h) → ⊥ }
 {
@@ -195,39 +206,36 @@ fn unset_of(version: &FoundVersion) -> Option<BlockNo>
 }
 
 /// What is kept of a file with one more version, which holds so many blocks.
-fn with_last(chain: &Option<Chain>, last: FoundVersion, pages: u32) -> Chain
-    ensures { (kept : Chain) → chain.now ≡ Some kept → kept.kept + pages < 2 ^ 32 → result ≡ with_last last pages kept }
+fn with_last(chain: &Chain, last: FoundVersion, pages: u32) -> Chain
+    ensures { chain.now.kept + pages < 2 ^ 32 → result ≡ with_last last pages chain.now }
 {
-    match chain {
-        None => Chain {
-            last,
-            first: 0,
-            unset: None,
-            kept: pages,
-        },
-        Some(chain) => Chain {
-            unset: unset_of(&chain.last),
-            last,
-            first: chain.first,
-            kept: chain.kept.saturating_add(pages),
-        },
+    Chain {
+        unset: unset_of(&chain.last),
+        last,
+        first: chain.first,
+        kept: chain.kept.saturating_add(pages),
     }
 }
 
-/// Puts a version, which holds so many blocks, behind the last one of the file at place `i`, which is live.
+/// Puts a version, which holds so many blocks, behind the last one of the file at place `i`, if it is live.
 fn set_last(chains: &mut Vec<Option<Chain>>, i: usize, last: FoundVersion, pages: u32)
     requires { i < length chains.old.items }
-    ensures set { (chain : Chain) → slice_get chains.old.items i ≡ Some (Some chain) → chain.kept + pages < 2 ^ 32
+    ensures set { (chain : Chain) → slice_get chains.old.items i ≡ Some (Some chain)
+        → chain.kept + pages < 2 ^ 32
         → chains.new.items ≡ set chains.old.items i (Some (with_last last pages chain)) }
     ensures size { length chains.new.items ≡ length chains.old.items }
 {
-    let longer = with_last(&chains[i], last, pages);
+    let longer = match &chains[i] {
+        None => return,
+        Some(chain) => with_last(chain, last, pages),
+    };
     chains[i] = Some(longer);
 }
 
 /// Marks an object as named, where there is one of this number.
 fn mark(named: &mut Vec<bool>, object: u32)
-    ensures marks { (list : List ℕ) → AreNamed list named.old.items → AreNamed (object ∷ list) named.new.items }
+    ensures marks { (list : List ℕ) → AreNamed list named.old.items
+        → AreNamed (object ∷ list) named.new.items }
     ensures size { length named.new.items ≡ length named.old.items }
 {
     let at = object as usize;
@@ -249,15 +257,21 @@ fn link_version<B: Blocks>(
     requires high { object ≤ length linked.old.chains.items }
     ensures began { survey.new.began ≡ survey.old.began }
     ensures count { survey.new.count ≡ survey.old.count }
-    ensures walk { IsTold B.tells B.settled survey.old → (laid : LaidVersion) (files : List LaidFile)
-        → LikeFiles (pages_of (B.content survey.old.began)) survey.old.count linked.old.chains.items files → kept_in files ≤ length survey.old.list
+    ensures walk { IsTold B.Blocks survey.old → (laid : LaidVersion) (files : List LaidFile)
+        → LikeFiles (pages_of
+        (B.content survey.old.began)) survey.old.count linked.old.chains.items files
+        → kept_in files ≤ length survey.old.list
         → last_in object files ≡ Some laid → prior.now ≡ prior_of laid
-        → Shows (λ _ (found : List LaidFile). LikeFiles (pages_of (B.content survey.old.began)) survey.old.count linked.new.chains.items found × (kept_in found ≤ length survey.new.list)) result
-        (version_linked (blocks_in B.content survey.old) namer (record { object = object; block = n }) laid files survey.old.list) survey.new.list }
+        → Shows (is_past B.Blocks survey.new.store)
+        (λ _ (found : List LaidFile). LikeFiles
+        (pages_of (B.content survey.old.began)) survey.old.count linked.new.chains.items found
+        × (kept_in found ≤ length survey.new.list)) result
+        (version_linked (blocks_in B.content survey.old) namer
+        (record { object = object; block = n }) laid files survey.old.list) survey.new.list }
     ensures named { linked.new.named.items ≡ linked.old.named.items }
     ensures size { length linked.new.chains.items ≡ length linked.old.chains.items }
     ensures unread { (h : Half) → IsErrOf result (CheckRefused.ReadFault h)
-        → IsUnreadSince B.tells B.moment B.content B.settled B.faults B.last_fault survey.new.began survey.new.store h }
+        → IsUnreadSince B.Blocks survey.new.began survey.new.store h }
 {
     if prior.block.get() == n.get() {
         return Ok(());
@@ -284,13 +298,19 @@ fn link_member<B: Blocks>(
     requires { length linked.old.named.items ≡ length linked.old.chains.items }
     ensures began { survey.new.began ≡ survey.old.began }
     ensures count { survey.new.count ≡ survey.old.count }
-    ensures walk { IsTold B.tells B.settled survey.old → (model : ModelTop) (from : ModelLinked)
-        → top.now ≡ shown_top model → LikeLinked (pages_of (B.content survey.old.began)) survey.old.count survey.old.list linked.old from
-        → Shows (λ _ (found : ModelLinked). LikeLinked (pages_of (B.content survey.old.began)) survey.old.count survey.new.list linked.new found) result
-        (member_linked (blocks_in B.content survey.old) model (record { object = object; block = n }) from (last_in object from.files) survey.old.list) survey.new.list }
+    ensures walk { IsTold B.Blocks survey.old → (model : ModelTop) (from : ModelLinked)
+        → top.now ≡ shown_top model → LikeLinked
+        (pages_of (B.content survey.old.began)) survey.old.count survey.old.list linked.old from
+        → Shows (is_past B.Blocks survey.new.store)
+        (λ _ (found : ModelLinked). LikeLinked
+        (pages_of (B.content survey.old.began)) survey.old.count survey.new.list linked.new found)
+        result
+        (member_linked (blocks_in B.content survey.old) model
+        (record { object = object; block = n }) from
+        (last_in object from.files) survey.old.list) survey.new.list }
     ensures size { OnOk result (length linked.new.named.items ≡ length linked.new.chains.items) }
     ensures unread { (h : Half) → IsErrOf result (CheckRefused.ReadFault h)
-        → IsUnreadSince B.tells B.moment B.content B.settled B.faults B.last_fault survey.new.began survey.new.store h }
+        → IsUnreadSince B.Blocks survey.new.began survey.new.store h }
 {
     let prior = prior_at(
         top,
@@ -312,13 +332,18 @@ fn link_members<B: Blocks>(
     requires { length linked.old.named.items ≡ length linked.old.chains.items }
     ensures began { survey.new.began ≡ survey.old.began }
     ensures count { survey.new.count ≡ survey.old.count }
-    ensures walk { IsTold B.tells B.settled survey.old → (model : ModelTop) (from : ModelLinked)
-        → top.now ≡ shown_top model → LikeLinked (pages_of (B.content survey.old.began)) survey.old.count survey.old.list linked.old from
-        → Shows (λ _ (found : ModelLinked). LikeLinked (pages_of (B.content survey.old.began)) survey.old.count survey.new.list linked.new found) result
-        (members_linked (blocks_in B.content survey.old) model top.now.members from survey.old.list) survey.new.list }
+    ensures walk { IsTold B.Blocks survey.old → (model : ModelTop) (from : ModelLinked)
+        → top.now ≡ shown_top model → LikeLinked
+        (pages_of (B.content survey.old.began)) survey.old.count survey.old.list linked.old from
+        → Shows (is_past B.Blocks survey.new.store)
+        (λ _ (found : ModelLinked). LikeLinked
+        (pages_of (B.content survey.old.began)) survey.old.count survey.new.list linked.new found)
+        result
+        (members_linked (blocks_in B.content survey.old) model top.now.members from survey.old.list)
+        survey.new.list }
     ensures size { OnOk result (length linked.new.named.items ≡ length linked.new.chains.items) }
     ensures unread { (h : Half) → IsErrOf result (CheckRefused.ReadFault h)
-        → IsUnreadSince B.tells B.moment B.content B.settled B.faults B.last_fault survey.new.began survey.new.store h }
+        → IsUnreadSince B.Blocks survey.new.began survey.new.store h }
 {
     'members: for k in 0..top.members.len() {
         let member = top.members.get(k);
@@ -337,12 +362,17 @@ pub fn link_tops<B: Blocks>(
     requires { length linked.old.named.items ≡ length linked.old.chains.items }
     ensures began { survey.new.began ≡ survey.old.began }
     ensures count { survey.new.count ≡ survey.old.count }
-    ensures walk { IsTold B.tells B.settled survey.old → (models : List ModelTop) (from : ModelLinked)
-        → tops.now ≡ map shown_top models → LikeLinked (pages_of (B.content survey.old.began)) survey.old.count survey.old.list linked.old from
-        → Shows (λ _ (found : ModelLinked). LikeLinked (pages_of (B.content survey.old.began)) survey.old.count survey.new.list linked.new found) result
+    ensures walk { IsTold B.Blocks survey.old → (models : List ModelTop) (from : ModelLinked)
+        → tops.now ≡ map shown_top models
+        → LikeLinked (pages_of
+        (B.content survey.old.began)) survey.old.count survey.old.list linked.old from
+        → Shows (is_past B.Blocks survey.new.store)
+        (λ _ (found : ModelLinked). LikeLinked
+        (pages_of (B.content survey.old.began)) survey.old.count survey.new.list linked.new found)
+        result
         (tops_linked (blocks_in B.content survey.old) models from survey.old.list) survey.new.list }
     ensures unread { (h : Half) → IsErrOf result (CheckRefused.ReadFault h)
-        → IsUnreadSince B.tells B.moment B.content B.settled B.faults B.last_fault survey.new.began survey.new.store h }
+        → IsUnreadSince B.Blocks survey.new.began survey.new.store h }
 {
     'tops: for k in 0..tops.len() {
         link_members(survey, &tops[k], linked)?;

@@ -8,7 +8,7 @@ ghost use Rattle.store_model.specs.Laws.{pages_of};
 ghost use Rattle.store_model.specs.Chains.{has_no_members, version_at};
 ghost use Rattle.store_model.specs.Pages.{pages_below};
 ghost use Rattle.store_check.specs.Before.{AreBefore, BeforeLies, PagesLie, page_before};
-ghost use Rattle.store_check.specs.Since.{IsUnreadSince};
+ghost use Rattle.store_check.specs.Since.{IsUnreadSince, is_past};
 ghost use Rattle.store_check.specs.Surveyed.{IsTold, blocks_in};
 ghost use Rattle.store_check.specs.declared.refused.CheckRefused.{CheckRefused};
 ghost use Rattle.store_check.specs.Results.{Gets, Shows, ShowsNone, Walks};
@@ -59,7 +59,9 @@ fn is_next(serial: u64, prior: u64) -> bool
 /// The first cause for which the version page in block `n` does not follow a version.
 #[tactic(auto, unfolding(crate::specs::Versions::follows_prior, store_model::specs::Walk::bind, store_model::specs::Walk::check, store_model::specs::Walk::refuse, store_model::specs::Walk::done))]
 fn follows(n: BlockNo, version: &VersionPage, before: &Option<Prior>) -> Result<(), CheckRefused>
-    ensures walk { (places : List ℕ) → Walks (λ _. true) result (follows_prior n version.now before.now places) places }
+    ensures walk { (places : List ℕ)
+        → Walks (λ _. true) (λ _. true) result
+        (follows_prior n version.now before.now places) places }
     ensures only { (h : Half) → IsErrOf result (CheckRefused.ReadFault h) → ⊥ }
 {
     match before {
@@ -92,7 +94,7 @@ fn follows(n: BlockNo, version: &VersionPage, before: &Option<Prior>) -> Result<
 fn is_settled(version: &VersionPage) -> bool
     ensures { result ≡ (is_none version.now.commit || has_no_members version.now) }
 {
-    version.commit.is_none() | version.members.is_empty()
+    version.commit.is_none() || version.members.is_empty()
 }
 
 /// The version page in block `n`, where it is one of the object that follows the version before.
@@ -103,7 +105,8 @@ fn checked(
     object: u32,
     before: &Option<Prior>,
 ) -> Result<VersionPage, CheckRefused>
-    ensures walk { (places : List ℕ) → Walks (λ v. v) result (checked object n before.now version places) places }
+    ensures walk { (places : List ℕ)
+        → Walks (λ _. true) (λ v. v) result (checked object n before.now version places) places }
     ensures only { (h : Half) → IsErrOf result (CheckRefused.ReadFault h) → ⊥ }
 {
     if version.object != object {
@@ -133,10 +136,12 @@ fn root_at<B: Blocks>(
 ) -> Result<VersionPage, CheckRefused>
     ensures began { survey.new.began ≡ survey.old.began }
     ensures count { survey.new.count ≡ survey.old.count }
-    ensures walk { IsTold B.tells B.settled survey.old
-        → Walks (λ v. v) result (root_at (blocks_in B.content survey.old) object namer n before.now survey.old.list) survey.new.list }
+    ensures walk { IsTold B.Blocks survey.old
+        → Walks (is_past B.Blocks survey.new.store) (λ v. v) result
+        (root_at (blocks_in B.content survey.old) object namer n before.now survey.old.list)
+        survey.new.list }
     ensures unread { (h : Half) → IsErrOf result (CheckRefused.ReadFault h)
-        → IsUnreadSince B.tells B.moment B.content B.settled B.faults B.last_fault survey.new.began survey.new.store h }
+        → IsUnreadSince B.Blocks survey.new.began survey.new.store h }
 {
     let block = place(survey, namer, n)?;
     match decode_version(&block) {
@@ -150,7 +155,8 @@ fn root_at<B: Blocks>(
 
 /// What a version has at the slots of its root.
 fn slots_of(version: &VersionPage) -> [Before; SLOTS]
-    ensures { (k : ℕ) → k < 16 → slice_get result k ≡ Some (page_before (option_and_then (λ r. r.block) (slice_get version.now.page.refs k))) }
+    ensures { (k : ℕ) → k < 16 → slice_get result k ≡ Some
+        (page_before (option_and_then (λ r. r.block) (slice_get version.now.page.refs k))) }
 {
     let page = &version.page;
     befores_of(&page.refs)
@@ -164,12 +170,14 @@ fn version_befores<B: Blocks>(
     ensures began { survey.new.began ≡ survey.old.began }
     ensures count { survey.new.count ≡ survey.old.count }
     ensures list { survey.new.list ≡ survey.old.list }
-    ensures befores { IsTold B.tells B.settled survey.old → (laid : LaidVersion)
-        → PagesLie (pages_of (B.content survey.old.began)) survey.old.count laid.block laid.nodes → n ≡ laid.block
-        → Gets (AreBefore (Some laid.nodes) []) result }
+    ensures befores { IsTold B.Blocks survey.old → (laid : LaidVersion)
+        → PagesLie (pages_of (B.content survey.old.began)) survey.old.count laid.block laid.nodes
+        → n ≡ laid.block
+        → Gets (is_past B.Blocks survey.new.store) (AreBefore (Some laid.nodes) []) result }
     ensures unread { (h : Half) → IsErrOf result (CheckRefused.ReadFault h)
-        → IsUnreadSince B.tells B.moment B.content B.settled B.faults B.last_fault survey.new.began survey.new.store h }
+        → IsUnreadSince B.Blocks survey.new.began survey.new.store h }
 {
+    // No contract says what files hold, so a block that is read again may name any number by now.
     if n.get() >= survey.count() {
         return Err(CheckRefused::BadStore {
             block: n,
@@ -194,11 +202,13 @@ fn root_befores<B: Blocks>(
     ensures began { survey.new.began ≡ survey.old.began }
     ensures count { survey.new.count ≡ survey.old.count }
     ensures list { survey.new.list ≡ survey.old.list }
-    ensures befores { IsTold B.tells B.settled survey.old → (laid : Option LaidVersion)
-        → OneLies (pages_of (B.content survey.old.began)) survey.old.count laid → before.now ≡ option_map prior_of laid
-        → Gets (AreBefore (option_map (λ v. v.nodes) laid) []) result }
+    ensures befores { IsTold B.Blocks survey.old → (laid : Option LaidVersion)
+        → OneLies (pages_of (B.content survey.old.began)) survey.old.count laid
+        → before.now ≡ option_map prior_of laid
+        → Gets (is_past B.Blocks survey.new.store)
+        (AreBefore (option_map (λ v. v.nodes) laid) []) result }
     ensures unread { (h : Half) → IsErrOf result (CheckRefused.ReadFault h)
-        → IsUnreadSince B.tells B.moment B.content B.settled B.faults B.last_fault survey.new.began survey.new.store h }
+        → IsUnreadSince B.Blocks survey.new.began survey.new.store h }
 {
     match before {
         Some(prior) => version_befores(survey, prior.block),
@@ -215,11 +225,14 @@ fn root_pages<B: Blocks>(
 ) -> Result<(), CheckRefused>
     ensures began { survey.new.began ≡ survey.old.began }
     ensures count { survey.new.count ≡ survey.old.count }
-    ensures walk { IsTold B.tells B.settled survey.old → (nodes : Option (List Node))
-        → BeforeLies (pages_of (B.content survey.old.began)) survey.old.count nodes → AreBefore nodes [] befores.now
-        → ShowsNone result (pages_below (blocks_in B.content survey.old) nodes 7 n [] version.now.page.refs survey.old.list) survey.new.list }
+    ensures walk { IsTold B.Blocks survey.old → (nodes : Option (List Node))
+        → BeforeLies (pages_of (B.content survey.old.began)) survey.old.count nodes
+        → AreBefore nodes [] befores.now
+        → ShowsNone (is_past B.Blocks survey.new.store) result
+        (pages_below (blocks_in B.content survey.old) nodes 7 n [] version.now.page.refs
+        survey.old.list) survey.new.list }
     ensures unread { (h : Half) → IsErrOf result (CheckRefused.ReadFault h)
-        → IsUnreadSince B.tells B.moment B.content B.settled B.faults B.last_fault survey.new.began survey.new.store h }
+        → IsUnreadSince B.Blocks survey.new.began survey.new.store h }
 {
     let page = &version.page;
     pages_below(survey, n, &page.refs, befores, 7)
@@ -227,7 +240,13 @@ fn root_pages<B: Blocks>(
 
 /// What is kept of the version in block `n`.
 fn kept_of(n: BlockNo, version: VersionPage) -> FoundVersion
-    ensures { result ≡ record { serial = version.serial; block = n; commit = version.commit; members = version.members } }
+    ensures { result ≡ record {
+      serial = version.serial;
+      block = n;
+      commit = version.commit;
+      members
+          = version.members;
+    } }
 {
     FoundVersion {
         serial: version.serial,
@@ -247,12 +266,16 @@ pub fn version_at<B: Blocks>(
 ) -> Result<FoundVersion, CheckRefused>
     ensures began { survey.new.began ≡ survey.old.began }
     ensures count { survey.new.count ≡ survey.old.count }
-    ensures walk { IsTold B.tells B.settled survey.old → (laid : Option LaidVersion)
-        → OneLies (pages_of (B.content survey.old.began)) survey.old.count laid → before.now ≡ option_map prior_of laid
-        → Shows (λ version (found : LaidVersion). (version ≡ shown_of found) × OneLies (pages_of (B.content survey.old.began)) survey.old.count (Some found)) result
-        (version_at (blocks_in B.content survey.old) object namer n laid survey.old.list) survey.new.list }
+    ensures walk { IsTold B.Blocks survey.old → (laid : Option LaidVersion)
+        → OneLies (pages_of (B.content survey.old.began)) survey.old.count laid
+        → before.now ≡ option_map prior_of laid
+        → Shows (is_past B.Blocks survey.new.store)
+        (λ version (found : LaidVersion). (version ≡ shown_of found)
+        × OneLies (pages_of (B.content survey.old.began)) survey.old.count (Some found)) result
+        (version_at (blocks_in B.content survey.old) object namer n laid survey.old.list)
+        survey.new.list }
     ensures unread { (h : Half) → IsErrOf result (CheckRefused.ReadFault h)
-        → IsUnreadSince B.tells B.moment B.content B.settled B.faults B.last_fault survey.new.began survey.new.store h }
+        → IsUnreadSince B.Blocks survey.new.began survey.new.store h }
 {
     let version = root_at(survey, object, namer, n, before)?;
     let befores = root_befores(survey, before)?;

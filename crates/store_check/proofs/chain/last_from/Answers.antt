@@ -7,7 +7,7 @@ use Rattle.store_check.specs.Before.{PagesLie}
 use Rattle.store_check.specs.Surveyed.{blocks_in}
 use Rattle.store_check.specs.Files.{LikeVersions}
 use Rattle.store_check.specs.Results.{Stops}
-use Rattle.store_check.proofs.Passing.{stops_on, shows_exit, told_on, back, on}
+use Rattle.store_check.proofs.Passing.{stopped_at, stops_on, shows_exit, told_on, back, on}
 use Rattle.store_check.proofs.ChainWalk.{ChainSoFar, chain_begin, chain_on, chain_refused, chain_done, chain_spent}
 use Rattle.store_check.proofs.chain.last_from.Goals as goal
 
@@ -41,10 +41,10 @@ versions-preserved g c =
       far = λ told laid lies first.
           let S = pages_of (b.content s.began) in
           let f = i.far told laid lies first in
-          let found = e.walk (told_on b.tells b.settled s l i.began i.count told) f.here
-          (on b.tells b.settled s l i.began i.count (λ d m. PagesLie (pages_of (b.content d)) m f.here.block f.here.nodes) f.lies) f.kept in
-          let next_lies = back b.tells b.settled s l i.began i.count (λ d m. PagesLie (pages_of (b.content d)) m found.0.block found.0.nodes) found.1.1 in
-          let is = back b.tells b.settled s l i.began i.count
+          let found = e.walk (told_on b s l i.began i.count told) f.here
+          (on b s l i.began i.count (λ d m. PagesLie (pages_of (b.content d)) m f.here.block f.here.nodes) f.lies) f.kept in
+          let next_lies = back b s l i.began i.count (λ d m. PagesLie (pages_of (b.content d)) m found.0.block found.0.nodes) found.1.1 in
+          let is = back b s l i.began i.count
           (λ d m. version_at (record { content = b.content d; count = m }) c.args.object f.here.block c.in-Some.n (Some f.here) l.list ≡ Ok (found.0, after)) found.2 in
           let more : s.count - c.versions._step ≡ suc (s.count - (c.versions._step + 1)) = Prim.omega (arith, c.versions-test.true, i.end) in
           chain_on (blocks_in b.content s) c.args.object S s.count laid s.list c.versions.last l.list (s.count - c.versions._step) (s.count - (c.versions._step + 1)) c.in-Some.n found.0
@@ -66,11 +66,11 @@ returns-in_err-last-in-Some-clause-walk g c = λ told laid lies first.
     let i = c.versions.invariant in
     let S = pages_of (b.content s.began) in
     let f = i.far told laid lies first in
-    let stop = c.in_err-last-in-Some.field-0.0 in
+    let stop = stopped_at g.B.Blocks c.next_at.new.survey.store c.in_err-last-in-Some.field-0.0 in
     let p = err_from_is_err_and c.from_residual.result c.from_residual.ensures.1 in
-    let stopped = c.in_err-last-in-Some.ensures.walk (told_on b.tells b.settled s l i.began i.count told) f.here
-    (on b.tells b.settled s l i.began i.count (λ d m. PagesLie (pages_of (b.content d)) m f.here.block f.here.nodes) f.lies) f.kept in
-    let here = back b.tells b.settled s l i.began i.count
+    let stopped = c.in_err-last-in-Some.ensures.walk (told_on b s l i.began i.count told) f.here
+    (on b s l i.began i.count (λ d m. PagesLie (pages_of (b.content d)) m f.here.block f.here.nodes) f.lies) f.kept in
+    let here = back b s l i.began i.count
     (λ d m. Stops {X = LaidVersion} stop (version_at (record { content = b.content d; count = m }) c.args.object f.here.block c.in-Some.n (Some f.here) l.list)) stopped in
     let more : s.count - c.versions._step ≡ suc (s.count - (c.versions._step + 1)) = Prim.omega (arith, c.versions-test.true, i.end) in
     shows_exit (LikeVersions S s.count laid.serial) c.from_residual.result stop (chain_from (blocks_in b.content s) c.args.object s.count laid s.list) c.next_at.new.survey.list (p.1 ∙ ap Err p.2)

@@ -12,7 +12,7 @@ invariant-versions g l = record {
   began : l.survey.began ≡ l.fn.survey.began;
   count : l.survey.count ≡ l.fn.survey.count;
   end : l._step-end ≡ l.fn.survey.count;
-  far : IsTold g.B.Blocks.tells g.B.Blocks.settled l.fn.survey → (laid : LaidVersion)
+  far : IsTold g.B.Blocks l.fn.survey → (laid : LaidVersion)
       → PagesLie (pages_of (g.B.Blocks.content l.fn.survey.began)) l.fn.survey.count laid.block laid.nodes → l.fn.first ≡ shown_of laid
       → ChainSoFar (blocks_in g.B.Blocks.content l.fn.survey) l.fn.object (pages_of (g.B.Blocks.content l.fn.survey.began)) l.fn.survey.count laid l.fn.survey.list
       (l.fn.survey.count - l._step) l.last l.survey.list;

@@ -10,7 +10,7 @@ use Rattle.store_check.specs.Rows.{row_of}
 use Rattle.store_check.specs.Files.{AllLie, LikeFiles}
 use Rattle.store_check.specs.Surveyed.{blocks_in}
 use Rattle.store_check.specs.Results.{Stops}
-use Rattle.store_check.proofs.Passing.{stops_on, shows_exit, told_on, back}
+use Rattle.store_check.proofs.Passing.{stopped_at, stops_on, shows_exit, told_on, back}
 use Rattle.store_check.proofs.ListWalk.{FilesSoFar, files_begin, files_on, files_refused, files_end, file_at}
 use Rattle.store_check.proofs.files.files_from.Goals as goal
 
@@ -42,9 +42,9 @@ files-preserved g c =
       size = Prim.omega (arith, i.size, ap length c.in_ok-push.ensures.items, length-append c.files.chains.items (c.in_ok-chain.chain ∷ []));
       far = λ told.
           let S = pages_of (b.content s.began) in
-          let found = e.walk (told_on b.tells b.settled s l i.began i.count told) in
-          let lie = back b.tells b.settled s l i.began i.count (λ d m. AllLie (pages_of (b.content d)) m found.0) found.1.1 in
-          let is = back b.tells b.settled s l i.began i.count
+          let found = e.walk (told_on b s l i.began i.count told) in
+          let lie = back b s l i.began i.count (λ d m. AllLie (pages_of (b.content d)) m found.0) found.1.1 in
+          let is = back b s l i.began i.count
           (λ d m. if_some row.entry.first (chain_at (record { content = b.content d; count = m }) (k + 1) row.block) l.list ≡ Ok (found.0, after)) found.2 in
           files_on S (blocks_in b.content s) rows s.list k c.files.chains.items c.push.new.self.items l.list row c.in_ok-chain.chain found.0 after c.files-test.true c.index-rows-i.is
           c.in_ok-push.ensures.items (i.far told) found.1.0 lie is;
@@ -60,11 +60,11 @@ returns-in_err-chain-clause-walk g c = λ told.
     let k : ℕ = c.files.i in
     let row = c.index-rows-i.result in
     let S = pages_of (b.content s.began) in
-    let stop = c.in_err-chain.field-0.0 in
+    let stop = stopped_at g.B.Blocks c.file_at.new.survey.store c.in_err-chain.field-0.0 in
     let p = err_from_is_err_and c.from_residual.result c.from_residual.ensures.1 in
-    let stopped = back b.tells b.settled s l i.began i.count
+    let stopped = back b s l i.began i.count
     (λ d m. Stops {X = List LaidVersion} stop (if_some row.entry.first (chain_at (record { content = b.content d; count = m }) (k + 1) row.block) l.list))
-    (c.in_err-chain.ensures.walk (told_on b.tells b.settled s l i.began i.count told)) in
+    (c.in_err-chain.ensures.walk (told_on b s l i.began i.count told)) in
     shows_exit (λ (chains : Vec (Option Chain) Global) (files : List LaidFile). LikeFiles S s.count chains.items files) c.from_residual.result stop
     (files_from (blocks_in b.content s) 1 (map row_of rows) s.list) c.file_at.new.survey.list (p.1 ∙ ap Err p.2)
     (stops_on stop (file_at (blocks_in b.content s) (k + 1) (row_of row) l.list) _ stopped

@@ -9,6 +9,6 @@ invariant-files g l = record {
   began : l.survey.began ≡ l.fn.survey.began;
   count : l.survey.count ≡ l.fn.survey.count;
   size : length l.chains.items ≡ l.i;
-  far : IsTold g.B.Blocks.tells g.B.Blocks.settled l.fn.survey
+  far : IsTold g.B.Blocks l.fn.survey
       → FilesSoFar (pages_of (g.B.Blocks.content l.fn.survey.began)) (blocks_in g.B.Blocks.content l.fn.survey) l.fn.rows l.fn.survey.list l.i l.chains.items l.survey.list;
 }

@@ -9,9 +9,10 @@ use Rattle.store_model.specs.Pages.{pages_below, slot_from, own_from, page_at}
 use Rattle.store_check.specs.declared.before.Before.{Before}
 use Rattle.store_check.specs.declared.refused.CheckRefused.{CheckRefused}
 use Rattle.store_check.specs.Before.{BeforeLies, before_at, own_block}
+use Rattle.store_check.specs.Since.{is_past}
 use Rattle.store_check.specs.Surveyed.{blocks_in}
 use Rattle.store_check.specs.Results.{ShowsNone, Stops}
-use Rattle.store_check.proofs.Passing.{stops_on, shows_exit, shows_as, told_on, back, on}
+use Rattle.store_check.proofs.Passing.{stopped_at, stops_on, shows_exit, shows_as, told_on, back, on}
 use Rattle.store_check.proofs.Slots.{slots_begin, slots_on, slots_refused, slots_end, Chosen, chosen, chosen_none, own_refused, own_shown, child_depth, below_is}
 use Rattle.store_check.proofs.pages.+pages.Goals as goal
 
@@ -36,13 +37,13 @@ pages_below-slots-preserved g t c =
       count = e.count ∙ i.count;
       far = λ told nodes path lies depth are.
           let low : k < length refs = Prim.omega (arith, c.type_inv.refs, c.slots-test.true) in
-          let here = e.walk (told_on b.tells b.settled s c.slots.survey i.began i.count told) nodes (path ++ k ∷ [])
-          (on b.tells b.settled s c.slots.survey i.began i.count (λ d n. BeforeLies (pages_of (b.content d)) n nodes) lies)
+          let here = e.walk (told_on b s c.slots.survey i.began i.count told) nodes (path ++ k ∷ [])
+          (on b s c.slots.survey i.began i.count (λ d n. BeforeLies (pages_of (b.content d)) n nodes) lies)
           (child_depth path k c.args.depth c.if-depth-eq0.false depth)
           (sym (get_or_from_slice_get c.args.befores.now k (before_at nodes (path ++ k ∷ [])) c.index-befores-k.result (are k c.slots-test.true))) in
           slots_on (blocks_in b.content s) (pages_below (blocks_in b.content s) nodes (c.args.depth - 1)) nodes c.args.namer path refs s.list c.slots.survey.list c.slot_pages.new.survey.list k other here.0 low
           (i.far told nodes path lies depth are)
-          (back b.tells b.settled s c.slots.survey i.began i.count
+          (back b s c.slots.survey i.began i.count
           (λ d n. slot_from (record { content = b.content d; count = n }) (pages_below (record { content = b.content d; count = n }) nodes (c.args.depth - 1)) nodes c.args.namer (path ++ k ∷ []) (get_or refs k other) (get_or refs k other).block c.slots.survey.list ≡ Ok (here.0, c.slot_pages.new.survey.list))
           here.2);
     }
@@ -66,14 +67,14 @@ pages_below-returns-in_err-slot_pages-clause-walk g t c =
     λ told nodes path lies depth are.
     let low : k < length refs = Prim.omega (arith, c.type_inv.refs, c.slots-test.true) in
     let p = err_from_is_err_and c.from_residual.result c.from_residual.ensures.1 in
-    let stop = c.in_err-slot_pages.field-0.0 in
-    let here = e.walk (told_on b.tells b.settled s c.slots.survey i.began i.count told) nodes (path ++ k ∷ [])
-    (on b.tells b.settled s c.slots.survey i.began i.count (λ d n. BeforeLies (pages_of (b.content d)) n nodes) lies)
+    let stop = stopped_at g.B.Blocks c.slot_pages.new.survey.store c.in_err-slot_pages.field-0.0 in
+    let here = e.walk (told_on b s c.slots.survey i.began i.count told) nodes (path ++ k ∷ [])
+    (on b s c.slots.survey i.began i.count (λ d n. BeforeLies (pages_of (b.content d)) n nodes) lies)
     (child_depth path k c.args.depth c.if-depth-eq0.false depth)
     (sym (get_or_from_slice_get c.args.befores.now k (before_at nodes (path ++ k ∷ [])) c.index-befores-k.result (are k c.slots-test.true))) in
     shows_exit (λ _ (_ : List Node). Unit {0}) c.from_residual.result stop _ _ (p.1 ∙ ap Err p.2)
     (stops_on stop _ _
-    (back b.tells b.settled s c.slots.survey i.began i.count
+    (back b s c.slots.survey i.began i.count
     (λ d n. Stops stop (slot_from (record { content = b.content d; count = n }) (pages_below (record { content = b.content d; count = n }) nodes (c.args.depth - 1)) nodes c.args.namer (path ++ k ∷ []) (get_or refs k other) (get_or refs k other).block c.slots.survey.list))
     here)
     (λ cause is. below_is (blocks_in b.content s) nodes c.args.depth c.args.namer path refs s.list c.if-depth-eq0.false
@@ -107,9 +108,9 @@ pub slot_pages-returns-in_err-own_block-clause-walk :
     goal.slot_pages-returns-in_err-own_block-clause-walk
 slot_pages-returns-in_err-own_block-clause-walk g t c = λ told nodes path lies depth at.
     let blocks = blocks_in g.B.Blocks.content c.args.survey.now in
-    let stop = c.in_err-own_block.field-0.0 in
+    let stop = stopped_at g.B.Blocks c.args.survey.now.store c.in_err-own_block.field-0.0 in
     let p = err_from_is_err_and c.from_residual.result c.from_residual.ensures.1 in
-    let chose = choice blocks nodes c.args.depth c.args.namer path c.args.reference.now c.args.before.now c.args.survey.now.list (Err stop) at (sym c.own_block.ensures ∙ c.in_err-own_block.was) in
+    let chose = choice blocks nodes c.args.depth c.args.namer path c.args.reference.now c.args.before.now c.args.survey.now.list (Err stop.refused) at (sym c.own_block.ensures ∙ c.in_err-own_block.was) in
     shows_exit (λ _ (_ : List Node). Unit {0}) c.from_residual.result stop _ _ (p.1 ∙ ap Err p.2) (chosen_none stop _ _ _ chose)
 
 pub slot_pages-returns-in_err-page-in-Some-clause-walk :
@@ -118,7 +119,7 @@ slot_pages-returns-in_err-page-in-Some-clause-walk g t c = λ told nodes path li
     let s = c.args.survey.now in
     let blocks = blocks_in g.B.Blocks.content s in
     let n = c.in-Some.n in
-    let stop = c.in_err-page-in-Some.field-0.0 in
+    let stop = stopped_at g.B.Blocks c.page_at.new.survey.store c.in_err-page-in-Some.field-0.0 in
     let p = err_from_is_err_and c.from_residual-in_err-page-in-Some.result c.from_residual-in_err-page-in-Some.ensures.1 in
     let chose = choice blocks nodes c.args.depth c.args.namer path c.args.reference.now c.args.before.now s.list (Ok (Some n)) at
     (sym c.own_block.ensures ∙ c.in_ok-own_block.was ∙ ap Ok c.in-Some.is) in
@@ -153,18 +154,19 @@ slot_pages-returns-in_ok-befores-in-Some-clause-walk g t c = λ told nodes path 
     let s2 = c.slot_befores.new.survey in
     let here : page_at blocks c.args.namer n (length path) s.list ≡ Ok (page, s1.list) =
     subst (λ (l : ℕ). page_at blocks c.args.namer n l s.list ≡ Ok (page, s1.list)) level (first.walk told) in
-    let told1 = told_on b.tells b.settled s s1 first.began first.count told in
-    let lies1 = on b.tells b.settled s s1 first.began first.count (λ d m. BeforeLies (pages_of (b.content d)) m nodes) lies in
+    let told1 = told_on b s s1 first.began first.count told in
+    let lies1 = on b s s1 first.began first.count (λ d m. BeforeLies (pages_of (b.content d)) m nodes) lies in
     let long : 1 ≤ length path = Prim.omega (arith, depth, c.requires) in
     let are = second.befores told1 nodes path lies1 long at in
-    let told2 = told_on b.tells b.settled s1 s2 second.began second.count told1 in
-    let lies2 = on b.tells b.settled s1 s2 second.began second.count (λ d m. BeforeLies (pages_of (b.content d)) m nodes) lies1 in
+    let told2 = told_on b s1 s2 second.began second.count told1 in
+    let lies2 = on b s1 s2 second.began second.count (λ d m. BeforeLies (pages_of (b.content d)) m nodes) lies1 in
+    let past = is_past b c.pages_below.new.survey.store in
     let shown = c.pages_below.ensures.walk told2 nodes path lies2 depth are in
-    let shown1 = back b.tells b.settled s1 s2 second.began second.count
-    (λ d m. ShowsNone {X = List Node} c.pages_below.result (pages_below (record { content = b.content d; count = m }) nodes c.args.depth n path c.page.inside.refs s2.list) c.pages_below.new.survey.list) shown in
-    let shown0 = back b.tells b.settled s s1 first.began first.count
-    (λ d m. ShowsNone {X = List Node} c.pages_below.result (pages_below (record { content = b.content d; count = m }) nodes c.args.depth n path c.page.inside.refs s2.list) c.pages_below.new.survey.list) shown1 in
-    shows_as (λ _ (_ : List Node). Unit {0}) c.pages_below.result _ _ c.pages_below.new.survey.list chose
-    (own_shown blocks (pages_below blocks nodes c.args.depth) c.args.namer path c.args.reference.now n page s.list s1.list c.pages_below.new.survey.list c.pages_below.result here
-    (subst (λ (refs : List ReferenceValue). ShowsNone {X = List Node} c.pages_below.result (pages_below blocks nodes c.args.depth n path refs s1.list) c.pages_below.new.survey.list) (ap (λ v. v.refs) c.page.view_is)
-    (subst (λ (places : List ℕ). ShowsNone {X = List Node} c.pages_below.result (pages_below blocks nodes c.args.depth n path c.page.inside.refs places) c.pages_below.new.survey.list) second.list shown0)))
+    let shown1 = back b s1 s2 second.began second.count
+    (λ d m. ShowsNone {X = List Node} past c.pages_below.result (pages_below (record { content = b.content d; count = m }) nodes c.args.depth n path c.page.inside.refs s2.list) c.pages_below.new.survey.list) shown in
+    let shown0 = back b s s1 first.began first.count
+    (λ d m. ShowsNone {X = List Node} past c.pages_below.result (pages_below (record { content = b.content d; count = m }) nodes c.args.depth n path c.page.inside.refs s2.list) c.pages_below.new.survey.list) shown1 in
+    shows_as (λ _ (_ : List Node). Unit {0}) past c.pages_below.result _ _ c.pages_below.new.survey.list chose
+    (own_shown blocks (pages_below blocks nodes c.args.depth) past c.args.namer path c.args.reference.now n page s.list s1.list c.pages_below.new.survey.list c.pages_below.result here
+    (subst (λ (refs : List ReferenceValue). ShowsNone {X = List Node} past c.pages_below.result (pages_below blocks nodes c.args.depth n path refs s1.list) c.pages_below.new.survey.list) (ap (λ v. v.refs) c.page.view_is)
+    (subst (λ (places : List ℕ). ShowsNone {X = List Node} past c.pages_below.result (pages_below blocks nodes c.args.depth n path c.page.inside.refs places) c.pages_below.new.survey.list) second.list shown0)))

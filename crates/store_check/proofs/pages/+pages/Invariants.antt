@@ -17,7 +17,7 @@ abbrev pub invariant-pages_below-slots : goal.invariant-pages_below-slots
 invariant-pages_below-slots g l = record {
   began : l.survey.began ≡ l.fn.survey.began;
   count : l.survey.count ≡ l.fn.survey.count;
-  far : IsTold g.B.Blocks.tells g.B.Blocks.settled l.fn.survey → (nodes : Option (List Node)) (path : List ℕ)
+  far : IsTold g.B.Blocks l.fn.survey → (nodes : Option (List Node)) (path : List ℕ)
       → BeforeLies (pages_of (g.B.Blocks.content l.fn.survey.began)) l.fn.survey.count nodes → length path + l.fn.depth ≡ 7
       → AreBefore nodes path l.fn.befores
       → SlotsSoFar (blocks_in g.B.Blocks.content l.fn.survey) (pages_below (blocks_in g.B.Blocks.content l.fn.survey) nodes (l.fn.depth - 1)) nodes l.fn.namer path l.fn.refs l.fn.survey.list l.k l.survey.list;

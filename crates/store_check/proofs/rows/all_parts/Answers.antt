@@ -6,7 +6,7 @@ use Rattle.store_check.specs.declared.rows.Row.{Row}
 use Rattle.store_check.specs.Surveyed.{blocks_in}
 use Rattle.store_check.specs.Results.{Stops}
 use Rattle.store_check.specs.Rows.{row_of}
-use Rattle.store_check.proofs.Passing.{stops_on, walks_exit, told_on, back}
+use Rattle.store_check.proofs.Passing.{stopped_at, stops_on, walks_exit, told_on, back}
 use Rattle.store_check.proofs.ListWalk.{SoFar, goes_on, is_refused, ends, parts_walk, part_found, part_refused, no_parts_left}
 use Rattle.store_check.proofs.rows.all_parts.Goals as goal
 
@@ -27,9 +27,9 @@ parts-preserved g c =
       count = e.count ∙ i.count;
       size = Prim.omega (arith, i.size, e.size, ap length c.in_ok-extend_from_slice.ensures.items, length-append c.parts.rows.items c.as_slice.result.now, ap length c.as_slice.ensures.value);
       far = λ told.
-          let is = back b.tells b.settled s l i.began i.count
+          let is = back b s l i.began i.count
           (λ d m. part_rows (record { content = b.content d; count = m }) j other l.list ≡ Ok (found, after))
-          (e.walk (told_on b.tells b.settled s l i.began i.count told)) in
+          (e.walk (told_on b s l i.began i.count told)) in
           let far = goes_on (parts_walk (blocks_in b.content s)) parts 0 s.list j (map row_of c.parts.rows.items) l.list other j found after c.parts-test.true c.index-parts-j.is
           (let e : j ≡ 0 + j = Prim.omega arith in e) (i.far told) (part_found (blocks_in b.content s) j other l.list found after is) in
           subst (λ (rows : List ModelRow). SoFar (parts_walk (blocks_in b.content s)) parts 0 s.list (j + 1) rows after)
@@ -45,11 +45,11 @@ returns-in_err-part-clause-walk g c = λ told.
     let parts = c.args.parts.now in
     let j : ℕ = c.parts.j in
     let other = c.index-parts-j.result in
-    let stop = c.in_err-part.field-0.0 in
+    let stop = stopped_at g.B.Blocks c.part_rows.new.survey.store c.in_err-part.field-0.0 in
     let p = err_from_is_err_and c.from_residual.result c.from_residual.ensures.1 in
-    let stopped = back b.tells b.settled s l i.began i.count
+    let stopped = back b s l i.began i.count
     (λ d m. Stops {X = List ModelRow} stop (part_rows (record { content = b.content d; count = m }) j other l.list))
-    (c.in_err-part.ensures.walk (told_on b.tells b.settled s l i.began i.count told)) in
+    (c.in_err-part.ensures.walk (told_on b s l i.began i.count told)) in
     walks_exit (λ (rows : Vec Row Global). map row_of rows.items) c.from_residual.result stop (parts_from (blocks_in b.content s) 0 parts s.list) c.part_rows.new.survey.list (p.1 ∙ ap Err p.2)
     (stops_on stop (part_rows (blocks_in b.content s) j other l.list) _ stopped
     (λ cause is. is_refused (parts_walk (blocks_in b.content s)) parts 0 s.list j (map row_of c.parts.rows.items) l.list other j cause c.parts-test.true c.index-parts-j.is

@@ -9,6 +9,6 @@ invariant-parts g l = record {
   began : l.survey.began ≡ l.fn.survey.began;
   count : l.survey.count ≡ l.fn.survey.count;
   size : length l.rows.items ≡ 63 * l.j;
-  far : IsTold g.B.Blocks.tells g.B.Blocks.settled l.fn.survey
+  far : IsTold g.B.Blocks l.fn.survey
       → SoFar (parts_walk (blocks_in g.B.Blocks.content l.fn.survey)) l.fn.parts 0 l.fn.survey.list l.j (map row_of l.rows.items) l.survey.list;
 }

@@ -3,7 +3,7 @@ use Rattle.std.proofs.lemmas.Result.{err_from_is_err_and}
 use Rattle.page_codec.specs.Values.{MemberValue}
 use Rattle.store_model.specs.Walk.{Blocks, and_then, done}
 use Rattle.store_model.specs.Laws.{pages_of}
-use Rattle.draft_model.specs.Places.{Store}
+use Rattle.page_places.specs.Places.{Store}
 use Rattle.store_model.specs.Members.{Top as ModelTop, Linked as ModelLinked, last_in, member_linked, version_linked}
 use Rattle.store_check.specs.declared.refused.CheckRefused.{CheckRefused}
 use Rattle.store_check.specs.declared.version.Prior.{Prior}
@@ -12,7 +12,7 @@ use Rattle.store_check.specs.declared.tops.Top.{Top}
 use Rattle.store_check.specs.declared.tops.Linked.{Linked}
 use Rattle.store_check.specs.Surveyed.{blocks_in}
 use Rattle.store_check.specs.Tops.{AreNamed, LikeLinked, at_object, prior_in, shown_top}
-use Rattle.store_check.proofs.Passing.{stops_on, shows_exit}
+use Rattle.store_check.proofs.Passing.{stopped_at, stops_on, shows_exit}
 use Rattle.store_check.proofs.MemberWalk.{PriorTold, prior_told, named_too}
 use Rattle.store_check.proofs.tops.link_member.Goals as goal
 
@@ -38,12 +38,12 @@ returns-in_err-prior-clause-walk g c = λ told model from top like.
     let S = pages_of (g.B.Blocks.content s.began) in
     let blocks = blocks_in g.B.Blocks.content s in
     let member : MemberValue = record { object = c.args.object; block = c.args.n } in
-    let stop = c.in_err-prior.field-0.0 in
+    let stop = stopped_at g.B.Blocks c.args.survey.now.store c.in_err-prior.field-0.0 in
     let p = err_from_is_err_and c.from_residual.result c.from_residual.ensures.1 in
     shows_exit (λ _ (found : ModelLinked). LikeLinked S s.count s.list c.args.linked.now found) c.from_residual.result stop
     (member_linked blocks model member from (last_in c.args.object from.files) s.list) s.list (p.1 ∙ ap Err p.2)
-    (told_of blocks S s.count c.args.linked.now c.args.top.now model member from s.list c.as_slice.result.now c.as_slice-2.result.now (Err stop) top like c.as_slice.ensures.value c.as_slice-2.ensures.value
-    (sym c.prior_at.ensures.value ∙ c.in_err-prior.was))
+    (told_of blocks S s.count c.args.linked.now c.args.top.now model member from s.list c.as_slice.result.now c.as_slice-2.result.now (Err stop.refused) top like c.as_slice.ensures.value c.as_slice-2.ensures.value
+    (sym c.prior_at.ensures.value ∙ c.in_err-prior.was) stop.past)
 
 pub returns-in_err-link_version-clause-walk : goal.returns-in_err-link_version-clause-walk
 returns-in_err-link_version-clause-walk g c = λ told model from top like.
@@ -51,7 +51,7 @@ returns-in_err-link_version-clause-walk g c = λ told model from top like.
     let S = pages_of (g.B.Blocks.content s.began) in
     let blocks = blocks_in g.B.Blocks.content s in
     let member : MemberValue = record { object = c.args.object; block = c.args.n } in
-    let stop = c.in_err-link_version.field-0.0 in
+    let stop = stopped_at g.B.Blocks c.link_version.new.survey.store c.in_err-link_version.field-0.0 in
     let p = err_from_is_err_and c.from_residual-in_err-link_version.result c.from_residual-in_err-link_version.ensures.1 in
     let of = told_of blocks S s.count c.args.linked.now c.args.top.now model member from s.list c.as_slice.result.now c.as_slice-2.result.now (Ok c.in_ok-prior.prior) top like c.as_slice.ensures.value c.as_slice-2.ensures.value
     (sym c.prior_at.ensures.value ∙ c.in_ok-prior.was) in

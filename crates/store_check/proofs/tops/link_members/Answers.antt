@@ -6,7 +6,7 @@ use Rattle.store_model.specs.Members.{Linked as ModelLinked, last_in, member_lin
 use Rattle.store_check.specs.Surveyed.{blocks_in}
 use Rattle.store_check.specs.Results.{Stops}
 use Rattle.store_check.specs.Tops.{AreNamed, LikeLinked}
-use Rattle.store_check.proofs.Passing.{stops_on, shows_exit, told_on, on, back}
+use Rattle.store_check.proofs.Passing.{stopped_at, stops_on, shows_exit, told_on, on, back}
 use Rattle.store_check.proofs.MemberWalk.{members_on, members_refused, members_end}
 use Rattle.store_check.proofs.tops.link_members.Goals as goal
 
@@ -32,11 +32,11 @@ members-preserved g c =
       far = λ told model from top like.
           let S = pages_of (b.content s.began) in
           let f = i.far told model from top like in
-          let found = e.walk (told_on b.tells b.settled s l i.began i.count told) model f.linked top
-          (on b.tells b.settled s l i.began i.count (λ d m. LikeLinked (pages_of (b.content d)) m l.list c.members.linked f.linked) f.like) in
+          let found = e.walk (told_on b s l i.began i.count told) model f.linked top
+          (on b s l i.began i.count (λ d m. LikeLinked (pages_of (b.content d)) m l.list c.members.linked f.linked) f.like) in
           let member : MemberValue = record { object = c.member.inside.object; block = c.member.inside.block } in
-          let next = back b.tells b.settled s l i.began i.count (λ d m. LikeLinked (pages_of (b.content d)) m c.link_member.new.survey.list c.link_member.new.linked found.0) found.1 in
-          let is = back b.tells b.settled s l i.began i.count
+          let next = back b s l i.began i.count (λ d m. LikeLinked (pages_of (b.content d)) m c.link_member.new.survey.list c.link_member.new.linked found.0) found.1 in
+          let is = back b s l i.began i.count
           (λ d m. member_linked (record { content = b.content d; count = m }) model member f.linked (last_in member.object f.linked.files) l.list ≡ Ok (found.0, c.link_member.new.survey.list)) found.2 in
           members_on (blocks_in b.content s) model S s.count c.args.top.now.members from s.list c.members.k c.members.linked c.link_member.new.linked l.list c.link_member.new.survey.list member found.0
           (c.get-member.ensures ∙ ap Some (sym c.member.view_is)) f next is;
@@ -50,13 +50,13 @@ returns-in_err-link_member-clause-walk g c = λ told model from top like.
     let i = c.members.invariant in
     let S = pages_of (b.content s.began) in
     let f = i.far told model from top like in
-    let stop = c.in_err-link_member.field-0.0 in
+    let stop = stopped_at g.B.Blocks c.link_member.new.survey.store c.in_err-link_member.field-0.0 in
     let p = err_from_is_err_and c.from_residual.result c.from_residual.ensures.1 in
     let member : MemberValue = record { object = c.member.inside.object; block = c.member.inside.block } in
-    let stopped = back b.tells b.settled s l i.began i.count
+    let stopped = back b s l i.began i.count
     (λ d m. Stops {X = ModelLinked} stop (member_linked (record { content = b.content d; count = m }) model member f.linked (last_in member.object f.linked.files) l.list))
-    (c.in_err-link_member.ensures.walk (told_on b.tells b.settled s l i.began i.count told) model f.linked top
-    (on b.tells b.settled s l i.began i.count (λ d m. LikeLinked (pages_of (b.content d)) m l.list c.members.linked f.linked) f.like)) in
+    (c.in_err-link_member.ensures.walk (told_on b s l i.began i.count told) model f.linked top
+    (on b s l i.began i.count (λ d m. LikeLinked (pages_of (b.content d)) m l.list c.members.linked f.linked) f.like)) in
     shows_exit (λ _ (found : ModelLinked). LikeLinked S s.count c.link_member.new.survey.list c.link_member.new.linked found) c.from_residual.result stop
     (members_linked (blocks_in b.content s) model c.args.top.now.members from s.list) c.link_member.new.survey.list (p.1 ∙ ap Err p.2)
     (stops_on stop (member_linked (blocks_in b.content s) model member f.linked (last_in member.object f.linked.files) l.list) _ stopped

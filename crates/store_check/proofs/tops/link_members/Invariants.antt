@@ -11,7 +11,7 @@ invariant-members g l = record {
   began : l.survey.began ≡ l.fn.survey.began;
   count : l.survey.count ≡ l.fn.survey.count;
   size : length l.linked.named.items ≡ length l.linked.chains.items;
-  far : IsTold g.B.Blocks.tells g.B.Blocks.settled l.fn.survey → (model : ModelTop) (from : ModelLinked)
+  far : IsTold g.B.Blocks l.fn.survey → (model : ModelTop) (from : ModelLinked)
       → l.fn.top ≡ shown_top model → LikeLinked (pages_of (g.B.Blocks.content l.fn.survey.began)) l.fn.survey.count l.fn.survey.list l.fn.linked from
       → MembersSoFar (blocks_in g.B.Blocks.content l.fn.survey) model (pages_of (g.B.Blocks.content l.fn.survey.began)) l.fn.survey.count l.fn.top.members from l.fn.survey.list l.k l.linked l.survey.list;
 }

@@ -8,7 +8,7 @@ use Rattle.store_check.specs.declared.tops.Top.{Top}
 use Rattle.store_check.specs.Surveyed.{blocks_in}
 use Rattle.store_check.specs.Results.{Stops}
 use Rattle.store_check.specs.Tops.{LikeLinked, shown_top}
-use Rattle.store_check.proofs.Passing.{stops_on, shows_exit, told_on, on, back}
+use Rattle.store_check.proofs.Passing.{stopped_at, stops_on, shows_exit, told_on, on, back}
 use Rattle.store_check.proofs.MemberWalk.{tops_go_on, tops_stop, tops_done, top_at}
 use Rattle.store_check.proofs.tops.link_tops.Goals as goal
 
@@ -37,10 +37,10 @@ tops-preserved g c =
           let S = pages_of (b.content s.began) in
           let f = i.far told models from tops like in
           let at = top_at c.args.tops.now models k c.index-tops-k.result tops c.tops-test.true in
-          let found = e.walk (told_on b.tells b.settled s l i.began i.count told) at.model f.linked (c.index-tops-k.is ∙ at.is)
-          (on b.tells b.settled s l i.began i.count (λ d m. LikeLinked (pages_of (b.content d)) m l.list c.tops.linked f.linked) f.like) in
-          let next = back b.tells b.settled s l i.began i.count (λ d m. LikeLinked (pages_of (b.content d)) m c.link_members.new.survey.list c.link_members.new.linked found.0) found.1 in
-          let is1 = back b.tells b.settled s l i.began i.count
+          let found = e.walk (told_on b s l i.began i.count told) at.model f.linked (c.index-tops-k.is ∙ at.is)
+          (on b s l i.began i.count (λ d m. LikeLinked (pages_of (b.content d)) m l.list c.tops.linked f.linked) f.like) in
+          let next = back b s l i.began i.count (λ d m. LikeLinked (pages_of (b.content d)) m c.link_members.new.survey.list c.link_members.new.linked found.0) found.1 in
+          let is1 = back b s l i.began i.count
           (λ d m. members_linked (record { content = b.content d; count = m }) at.model c.index-tops-k.result.members f.linked l.list ≡ Ok (found.0, after)) found.2 in
           let is = subst (λ (members : List MemberValue). members_linked (blocks_in b.content s) at.model members f.linked l.list ≡ Ok (found.0, after)) (ap (λ (t : Top). t.members) (c.index-tops-k.is ∙ at.is)) is1 in
           tops_go_on (blocks_in b.content s) S s.count models from s.list k c.tops.linked l.list c.link_members.new.linked after at.model found.0 at.here f next is;
@@ -55,13 +55,13 @@ returns-in_err-link_members-clause-walk g c = λ told models from tops like.
     let k : ℕ = c.tops.k in
     let S = pages_of (b.content s.began) in
     let f = i.far told models from tops like in
-    let stop = c.in_err-link_members.field-0.0 in
+    let stop = stopped_at g.B.Blocks c.link_members.new.survey.store c.in_err-link_members.field-0.0 in
     let p = err_from_is_err_and c.from_residual.result c.from_residual.ensures.1 in
     let at = top_at c.args.tops.now models k c.index-tops-k.result tops c.tops-test.true in
-    let stopped = back b.tells b.settled s l i.began i.count
+    let stopped = back b s l i.began i.count
     (λ d m. Stops {X = ModelLinked} stop (members_linked (record { content = b.content d; count = m }) at.model c.index-tops-k.result.members f.linked l.list))
-    (c.in_err-link_members.ensures.walk (told_on b.tells b.settled s l i.began i.count told) at.model f.linked (c.index-tops-k.is ∙ at.is)
-    (on b.tells b.settled s l i.began i.count (λ d m. LikeLinked (pages_of (b.content d)) m l.list c.tops.linked f.linked) f.like)) in
+    (c.in_err-link_members.ensures.walk (told_on b s l i.began i.count told) at.model f.linked (c.index-tops-k.is ∙ at.is)
+    (on b s l i.began i.count (λ d m. LikeLinked (pages_of (b.content d)) m l.list c.tops.linked f.linked) f.like)) in
     let here = subst (λ (members : List MemberValue). Stops {X = ModelLinked} stop (members_linked (blocks_in b.content s) at.model members f.linked l.list)) (ap (λ (t : Top). t.members) (c.index-tops-k.is ∙ at.is)) stopped in
     shows_exit (λ _ (found : ModelLinked). LikeLinked S s.count c.link_members.new.survey.list c.link_members.new.linked found) c.from_residual.result stop
     (tops_linked (blocks_in b.content s) models from s.list) c.link_members.new.survey.list (p.1 ∙ ap Err p.2)

@@ -11,7 +11,7 @@ invariant-tops g l = record {
   began : l.survey.began ≡ l.fn.survey.began;
   count : l.survey.count ≡ l.fn.survey.count;
   size : length l.linked.named.items ≡ length l.linked.chains.items;
-  far : IsTold g.B.Blocks.tells g.B.Blocks.settled l.fn.survey → (models : List ModelTop) (from : ModelLinked)
+  far : IsTold g.B.Blocks l.fn.survey → (models : List ModelTop) (from : ModelLinked)
       → l.fn.tops ≡ map shown_top models → LikeLinked (pages_of (g.B.Blocks.content l.fn.survey.began)) l.fn.survey.count l.fn.survey.list l.fn.linked from
       → TopsWalked (blocks_in g.B.Blocks.content l.fn.survey) (pages_of (g.B.Blocks.content l.fn.survey.began)) l.fn.survey.count models from l.fn.survey.list l.k l.linked l.survey.list;
 }

@@ -12,7 +12,7 @@ use Rattle.store_check.specs.Files.{LikeFiles, own_pages}
 use Rattle.store_check.specs.Counts.{kept_in}
 use Rattle.store_check.specs.Tops.{with_last}
 use Rattle.store_check.proofs.Adding.{adds_linked, kept_with}
-use Rattle.store_check.proofs.Passing.{stops_on, shows_exit}
+use Rattle.store_check.proofs.Passing.{stopped_at, stops_on, shows_exit}
 use Rattle.store_check.proofs.MemberWalk.{equal_test, other_test, linked_already, linked_stops, linked_found, longer_is, longer_lies, last_at_place, last_lies}
 use Rattle.store_check.proofs.tops.link_version.Goals as goal
 
@@ -31,7 +31,7 @@ returns-in_err-last-clause-walk g c = λ told laid files like few last prior.
     let s = c.args.survey.now in
     let S = pages_of (b.content s.began) in
     let member : MemberValue = record { object = c.args.object; block = c.args.n } in
-    let stop = c.in_err-last.field-0.0 in
+    let stop = stopped_at g.B.Blocks c.tried_member.new.survey.store c.in_err-last.field-0.0 in
     let p = err_from_is_err_and c.from_residual.result c.from_residual.ensures.1 in
     let apart : (laid.block == c.args.n) ≡ false = other_test laid.block c.args.n (λ same. c.if-get.false (c.get.ensures.value ∙ ap (λ p. p.block) prior ∙ same ∙ sym c.get-2.ensures.value)) in
     shows_exit (λ _ (found : List LaidFile). LikeFiles S s.count c.args.linked.now.chains.items found × (kept_in found ≤ length c.tried_member.new.survey.list)) c.from_residual.result stop

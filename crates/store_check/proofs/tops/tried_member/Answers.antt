@@ -8,7 +8,7 @@ use Rattle.store_check.specs.declared.version.FoundVersion.{FoundVersion}
 use Rattle.store_check.specs.Before.{PagesLie}
 use Rattle.store_check.specs.Surveyed.{blocks_in}
 use Rattle.store_check.specs.Versions.{shown_of, tried_at}
-use Rattle.store_check.proofs.Passing.{stops_on, shows_exit}
+use Rattle.store_check.proofs.Passing.{stopped_at, stops_on, shows_exit}
 use Rattle.store_check.proofs.VersionWalk.{tried_stops, tried_fails, tried_passes}
 use Rattle.store_check.proofs.tops.tried_member.Goals as goal
 
@@ -16,7 +16,7 @@ pub returns-in_err-version-clause-walk : goal.returns-in_err-version-clause-walk
 returns-in_err-version-clause-walk g c = λ told laid lies before.
     let b = g.B.Blocks in
     let s = c.args.survey.now in
-    let stop = c.in_err-version.field-0.0 in
+    let stop = stopped_at g.B.Blocks c.version_at.new.survey.store c.in_err-version.field-0.0 in
     let p = err_from_is_err_and c.from_residual.result c.from_residual.ensures.1 in
     shows_exit (λ (version : FoundVersion) (found : LaidVersion). (version ≡ shown_of found) × PagesLie (pages_of (b.content s.began)) s.count found.block found.nodes) c.from_residual.result stop
     (tried_at (blocks_in b.content s) c.args.object c.args.namer c.args.n laid s.list) c.version_at.new.survey.list (p.1 ∙ ap Err p.2)

@@ -7,7 +7,7 @@ use Rattle.page_codec.specs.Causes.{version_of}
 use Rattle.store_model.specs.Laws.{pages_of}
 use Rattle.store_check.specs.declared.before.Before.TheVariants.{Page}
 use Rattle.store_check.specs.Before.{page_before, AreBefore}
-use Rattle.store_check.proofs.Passing.{gets_exit}
+use Rattle.store_check.proofs.Passing.{stopped_at, gets_exit}
 use Rattle.store_check.proofs.BeforeLaws.{page_before_is, root_before, content_of_page, version_read, content_was, no_cause}
 use Rattle.store_check.proofs.version.version_befores.Goals as goal
 
@@ -24,8 +24,8 @@ returns-in_err-block-clause-befores g c = λ told laid lies block.
     let is = page_before_is S c.args.survey.now.count (Some laid.nodes) [] c.args.n (laid.block, lies) (root_before S c.args.survey.now.count laid.block laid.nodes lies ∙ ap Page (sym block)) in
     let held = content_of_page content c.args.n is.page is.is in
     let p = err_from_is_err_and c.from_residual.result c.from_residual.ensures.1 in
-    gets_exit (AreBefore (Some laid.nodes) []) c.from_residual.result c.in_err-block.field-0.0 (p.1 ∙ ap Err p.2)
-    (no_cause c.args.n (content c.args.n) held.0 [] c.in_err-block.field-0.0 held.1 (c.in_err-block.ensures.walk told []))
+    gets_exit (AreBefore (Some laid.nodes) []) c.from_residual.result (stopped_at g.B.Blocks c.read.new.self.store c.in_err-block.field-0.0) (p.1 ∙ ap Err p.2)
+    (no_cause c.args.n (content c.args.n) held.0 [] (stopped_at g.B.Blocks c.read.new.self.store c.in_err-block.field-0.0) held.1 (c.in_err-block.ensures.walk told []))
 
 pub returns-in-Ok-clause-befores : goal.returns-in-Ok-clause-befores
 returns-in-Ok-clause-befores g c = λ told laid lies block k low.

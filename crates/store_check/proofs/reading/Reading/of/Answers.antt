@@ -6,6 +6,6 @@ use Rattle.store_check.proofs.reading.Reading.of.Goals as goal
 pub invariant_of-result : goal.invariant_of-result
 invariant_of-result g c =
     let b = g.B.Blocks in
-    subst (λ d. OnlyRead b.tells b.size b.moment b.content b.may_leave b.settled b.settled_always b.faults b.last_fault d c.args.store)
+    subst (λ d. OnlyRead b d c.args.store)
     (sym c.of-began.ensures)
-    (none_read b.tells b.size b.moment b.content b.may_leave b.settled b.settled_always b.faults b.last_fault c.args.store (g.met.B.Blocks.clock c.args.store))
+    (none_read b c.args.store (g.met.B.Blocks.clock c.args.store))
