@@ -2,11 +2,12 @@
 use Rattle.std.proofs.Common.{◌≡◌, ◌≢◌, ℕ, zero, suc, ◌+◌, ◌-◌, ◌<◌, List, [], ◌∷◌, ◌++◌, length, length-append, Option, Some, None, option_map, refl, sym, ap, ◌∙◌, arith, slice_get, get_or, map, if◌then◌else◌}
 use Rattle.std.specs.Option.{is_none}
 use Rattle.std.specs.List.{fold}
-use Rattle.version_chain.specs.declared.head.Head.{Head}
+use Rattle.afs_base.specs.declared.head.Head.{Head}
 use Rattle.store_model.specs.Laid.{LaidVersion, LaidFile, last_laid}
 use Rattle.store_model.specs.Changes.{changed_at, file_with}
 use Rattle.store_model.proofs.Edits.{some_is, none_some, changed_length, map_changed}
 use Rattle.store_check.specs.declared.chain.Chain.{Chain}
+use Rattle.store_check.specs.Counts.{kept_in}
 use Rattle.store_check.specs.Versions.{shown_of}
 use Rattle.store_check.specs.Files.{first_serial, kept_by, own_pages, unset_base, chain_of}
 use Rattle.recovery.specs.Opening.{head_of, heads_of}
@@ -91,6 +92,18 @@ none_from versions (Some last) is e = none_some (sym e)
 pub kept_none : (versions : List LaidVersion) → chain_of versions ≡ None → last_laid versions ≡ None
 kept_none versions e = none_from versions (last_laid versions) refl e
 
+shown_from : (versions : List LaidVersion) (o : Option LaidVersion)
+    → option_map shown_of o
+    ≡ option_map (λ (chain : Chain). chain.last)
+    (option_map (λ last. record { last = shown_of last; first = first_serial versions; unset = unset_base versions; kept = kept_by versions }) o)
+shown_from versions None = refl
+shown_from versions (Some v) = refl
+
+-- the last version of a file is the one that is kept
+pub chain_shown : (versions : List LaidVersion) (o : Option Chain) → chain_of versions ≡ o
+    → option_map shown_of (last_laid versions) ≡ option_map (λ (chain : Chain). chain.last) o
+chain_shown versions o e = shown_from versions (last_laid versions) ∙ ap (option_map (λ (chain : Chain). chain.last)) e
+
 -- ---- the link that is outstanding
 
 pub unset_last : (versions : List LaidVersion) (place : ℕ) (base : LaidVersion) → slice_get versions place ≡ Some base → length versions ≡ suc (suc place)
@@ -132,15 +145,16 @@ first_kept change place [] keeps = refl
 first_kept change zero (v ∷ vs) keeps = keeps.serial v
 first_kept change (suc place) (v ∷ vs) keeps = refl
 
-own_from : (change : LaidVersion → LaidVersion) (place : ℕ) (versions : List LaidVersion) (n : ℕ) → KeepsHead change
-    → fold (λ a x. a + own_pages x) n (changed_at change place versions) ≡ fold (λ a x. a + own_pages x) n versions
-own_from change place [] n keeps = refl
-own_from change zero (v ∷ vs) n keeps = ap (λ m. fold (λ a x. a + own_pages x) (n + m) vs) (keeps.own v)
-own_from change (suc place) (v ∷ vs) n keeps = own_from change place vs (n + own_pages v) keeps
+-- a sum stays where an item is changed to one that counts the same
+sum_from : {X : Type 0} (f : X → ℕ) (change : X → X) (place : ℕ) (xs : List X) (n : ℕ) → ((x : X) → f (change x) ≡ f x)
+    → fold (λ a x. a + f x) n (changed_at change place xs) ≡ fold (λ a x. a + f x) n xs
+sum_from f change place [] n same = refl
+sum_from f change zero (x ∷ xs) n same = ap (λ m. fold (λ a y. a + f y) (n + m) xs) (same x)
+sum_from f change (suc place) (x ∷ xs) n same = sum_from f change place xs (n + f x) same
 
 own_kept : (change : LaidVersion → LaidVersion) (place : ℕ) (versions : List LaidVersion) → KeepsHead change
     → kept_by (changed_at change place versions) ≡ kept_by versions
-own_kept change place versions keeps = own_from change place versions 0 keeps
+own_kept change place versions keeps = sum_from own_pages change place versions 0 keeps.own
 
 -- what a head tells of the last version
 record Tip : Type 0 where
@@ -192,3 +206,8 @@ pub heads_kept : (change : LaidVersion → LaidVersion) (place k : ℕ) (files :
     → heads_of (changed_at (file_with change place) k files) ≡ heads_of files
 heads_kept change place k files keeps =
     map_changed (λ (file : LaidFile). head_of file.versions) (file_with change place) k files (λ file. head_kept change place file.versions keeps)
+
+pub kept_kept : (change : LaidVersion → LaidVersion) (place k : ℕ) (files : List LaidFile) → KeepsHead change
+    → kept_in (changed_at (file_with change place) k files) ≡ kept_in files
+kept_kept change place k files keeps =
+    sum_from (λ (file : LaidFile). kept_by file.versions) (file_with change place) k files 0 (λ file. own_kept change place file.versions keeps)

@@ -1,9 +1,15 @@
 -- What is told of the files of a store, from what is kept of them; and that each last version is in a block of the store.
-use Rattle.std.proofs.Common.{◌≡◌, ℕ, suc, ◌-◌, ◌<◌, List, [], ◌∷◌, length, inl, inr, Option, Some, None, Ok, option_map, refl, sym, ap, subst, ◌∙◌, arith, slice_get}
-use Rattle.version_chain.specs.declared.head.Head.{Head}
+use Rattle.std.proofs.Common.{◌≡◌, ◌≢◌, ◌==◌, ℕ, suc, min, ◌+◌, ◌-◌, ◌^◌, ◌<◌, Bool, true, not, List, [], ◌∷◌, length, inl, inr, Option, Some, None, Ok, Err, option_map, refl, sym, ap, subst, ◌∙◌, arith, slice_get}
+use Rattle.std.proofs.lemmas.Bool.Decides.{nat_tests}
+use Rattle.drives.specs.declared.device.Half.{Half}
+use Rattle.pair_store.specs.ContentLaws.{decide}
+use Rattle.pair_store.specs.Faults.{IsUnread}
+use Rattle.pair_store.specs.declared.store.Blocks.{Ghosts}
+use Rattle.afs_base.specs.declared.head.Head.{Head}
 use Rattle.store_model.specs.Laid.{LaidVersion, LaidFile, last_laid}
 use Rattle.store_model.specs.Members.{longer, tops_from, tops_linked}
-use Rattle.store_model.specs.Found.{LaidStore, laid}
+use Rattle.store_model.specs.Walk.{Refused}
+use Rattle.store_model.specs.Found.{LaidStore, laid, state_of}
 use Rattle.store_model.proofs.Steps.{Content, InRange, blocks_of}
 use Rattle.store_model.proofs.Rewriting.{same_version}
 use Rattle.store_model.proofs.Chaining.{last_from}
@@ -15,10 +21,16 @@ use Rattle.store_model.proofs.Hits.{Outcome, missed, frozen, hit, tops_outcome}
 use Rattle.store_model.proofs.Edits.{some_is, last_past}
 use Rattle.store_check.specs.declared.chain.Chain.{Chain}
 use Rattle.store_check.specs.declared.version.FoundVersion.{FoundVersion}
+use Rattle.store_check.specs.declared.refused.CheckRefused.{CheckRefused}
+use Rattle.store_check.specs.declared.refused.CheckRefused.TheVariants.{ReadFault as Unchecked, BadStore as BadCheck, Memory as NoMemory}
+use Rattle.store_check.specs.Checked.{Answers}
+use Rattle.store_check.specs.Results.{Outcome as Walked}
+use Rattle.store_check.specs.Since.{is_past}
 use Rattle.store_check.specs.Versions.{shown_of}
 use Rattle.store_check.specs.Files.{first_serial, kept_by, unset_base, chain_of, chains_of}
-use Rattle.recovery.specs.Opening.{head_of, heads_of}
-use Rattle.recovery.specs.Known.{head_from, heads_from}
+use Rattle.recovery.specs.declared.refused.OpenRefused.TheVariants.{ReadFault}
+use Rattle.recovery.specs.Opening.{IsFailed, IsNoStore, IsReadable, head_of, heads_of, refused_check}
+use Rattle.recovery.specs.Known.{Knows, head_from, heads_from}
 use Rattle.recovery.proofs.Heads.{MapAt, map_at, KeptOf, kept_of}
 
 head_told : (versions : List LaidVersion) → option_map head_from (chain_of versions) ≡ head_of versions
@@ -69,3 +81,39 @@ chain_low_block c most store places e k kept is =
     let m : MapAt (λ (file : LaidFile). chain_of file.versions) store.files k (Some kept) = map_at (λ (file : LaidFile). chain_of file.versions) store.files k (Some kept) is in
     let ch : KeptOf m.item.versions kept = kept_of m.item.versions kept m.is in
     subst (λ (n : ℕ). n < store.root.blocks) (ap (λ (v : FoundVersion). v.block) (sym ch.shown)) (last_low c most store places e k m.item ch.last m.listed ch.is)
+
+-- ---- where the check found no store
+
+-- the refusal of a check says the same of what is found
+pub refused_knows : (past : Half → Bool) (e : CheckRefused) (outcome : Walked LaidStore) → Answers past (Err e) outcome → Knows (Err (refused_check e)) outcome
+refused_knows past (Unchecked half) outcome is = tt
+refused_knows past (BadCheck block why) outcome is = is
+refused_knows past NoMemory outcome is = tt
+
+pub check_read : (e : CheckRefused) (h : Half) → refused_check e ≡ ReadFault h → e ≡ Unchecked h
+check_read (Unchecked half) h is = ap Unchecked (let same : ReadFault half ≡ ReadFault h = is in cc)
+check_read (BadCheck block why) h is = absurd cc
+check_read NoMemory h is = absurd cc
+
+not_equal : (m n : ℕ) → m ≢ n → not (m == n) ≡ true
+not_equal m n off = Prim.grind (arith, nat_tests)
+
+-- a half that failed in a read: in the last call, or where there is no store
+pub unread_so : {D : Type 0} (b : Ghosts D) (old new : D) (h : Half) (n : ℕ)
+    → IsUnread (b.faults old) (b.faults new) (b.last_fault new) (b.moment new) (b.tells → b.settled old n → b.content old n ≡ None) h
+    → (IsReadable b old → is_past b new h ≡ true → (e : Refused) × (laid (b.content old) (b.size old) [] ≡ Err e))
+    → IsFailed (b.faults old) (b.faults new) (b.last_fault new) (b.moment new) (IsReadable b old → IsNoStore (b.content old) (b.size old)) h
+unread_so b old new h n unread stops =
+    record {
+      failed = unread.failed;
+      last = elim (decide (b.last_fault new h) (b.moment new)) [
+        | inl at ↦ inl at
+        | inr off ↦ elim unread.last [
+          | inl at ↦ inl at
+          | inr (at, stood, empty) ↦ inr (
+            subst (λ (k : Half). b.moment new ≡ min (b.last_fault new k + 1) (2 ^ 64 - 1)) (sym at) stood,
+            λ readable. let s = stops readable (not_equal (b.last_fault new h) (b.moment new) off) in (s.0, ap state_of s.1),
+          )
+        ]
+      ];
+    }

@@ -1,10 +1,12 @@
 pub mod Mends
 pub mod Heads
+pub mod Places
+pub mod Turning
 pub mod Links
 pub mod Tops
 pub mod Rolls
-pub mod Writes
-pub mod Commits
+pub mod Calls
 pub mod KnownLaws
 pub mod Openings
 pub mod PairOpenings
+pub mod Reopens

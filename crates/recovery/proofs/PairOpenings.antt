@@ -1,25 +1,39 @@
--- From an opening over a store of blocks to one over its two halves.
-use Rattle.std.proofs.Common.{◌≡◌, ℕ, ◌<◌, ◌≤◌, List, [], length, Option, None, Result, Ok, Err, refl, sym, ap, subst, ◌∙◌}
+-- From an opening over a store of blocks to one of two halves.
+use Rattle.std.proofs.Common.{◌≡◌, ◌⊎◌, inl, inr, ℕ, ◌<◌, ◌≤◌, List, [], Option, None, Result, Ok, Err, refl, sym, ap, subst, ◌∙◌, arith}
 use Rattle.std.specs.Prelude.{IfOk, IfErr}
 use Rattle.std.proofs.Math.Path.{fun_ext}
-use Rattle.drives.specs.declared.device.Half.{Half}
+use Rattle.drives.specs.declared.device.Drives.{Ghosts as Device}
 use Rattle.drives.specs.declared.device.Half.TheVariants.{A, B}
-use Rattle.drives.specs.Changes.{Changes, Halves, IsAtRest, halves_seen}
-use Rattle.drives.proofs.Composing.{goes_on, leaves_now}
+use Rattle.drives.specs.Changes.{Changes, Halves, halves_seen}
 use Rattle.page_codec.specs.declared.why.Why.TheVariants.{Closed}
+use Rattle.pair_store.specs.Answers.{IsUntorn}
+use Rattle.pair_store.specs.Mending.{IsHalfFault}
+use Rattle.pair_store.specs.declared.fault.PairFault.{PairFault}
+use Rattle.pair_store.specs.declared.fault.PairFault.TheVariants.{ReadFault, WriteFault, BothClosed, BadPage}
 use Rattle.pair_store.specs.declared.on_halves.Pair.{Pair}
+use Rattle.pair_store.specs.declared.store.Blocks.{Ghosts}
 use Rattle.pair_store.specs.Content.{ContentsLeft, IsSettled, IsSettledAlways, content_of}
 use Rattle.tree_model.specs.States.{State}
 use Rattle.store_model.specs.Walk.{Refused, bind, content_at, refuse}
-use Rattle.store_model.specs.Found.{laid, laid_from, found, state_of}
+use Rattle.store_model.specs.Found.{LaidStore, laid, laid_from, found, state_of}
+use Rattle.store_model.specs.Laws.{read_of}
+use Rattle.store_model.proofs.PlaceLists.{not_in}
 use Rattle.store_model.proofs.Steps.{Content}
+use Rattle.store_model.proofs.Stores.{Parts, parts_of}
 use Rattle.store_check.specs.Checked.{IsMended}
+use Rattle.store_check.specs.Results.{Outcome}
+use Rattle.recovery.specs.declared.opened.Opened.{Opened}
 use Rattle.recovery.specs.declared.opened.OpenedOver.{OpenedOver}
+use Rattle.recovery.specs.declared.opened.Unopened.{Unopened}
 use Rattle.recovery.specs.declared.opened.UnopenedOver.{UnopenedOver}
-use Rattle.recovery.specs.declared.refused.OpenRefused.{OpenRefused}
-use Rattle.recovery.specs.Mended.{OnlyMended}
-use Rattle.recovery.specs.Opening.{IsBad, IsFailed, IsNoStore, IsOpened, SameFound, drives_of, pair_result, store_of}
-use Rattle.recovery.proofs.Rolls.{failed_since, read_images}
+use Rattle.recovery.specs.Halves.{AtRest, contents, why_not}
+use Rattle.recovery.specs.Known.{why_of}
+use Rattle.recovery.specs.Mended.{blocks_in_table, table_in}
+use Rattle.recovery.specs.Opening.{IsBad, IsNoPlace, IsNoStore, IsOpening, SameFound, drives_of, pair_result, refused_call, store_of}
+use Rattle.recovery.specs.Rolling.{IsUnwritten}
+use Rattle.recovery.proofs.Places.{places_ranged}
+
+-- ---- what is found
 
 -- where block 0 has no content there is no store
 closed_laid : (c : Content) (most : ℕ) (o : Option (List ℕ)) → o ≡ None → bind (content_at 0 o) (laid_from c most) [] ≡ Err (record { block = 0; why = Closed })
@@ -30,79 +44,114 @@ pub no_content : (c : Content) (most : ℕ) → c 0 ≡ None → IsNoStore c mos
 unfolding laid
 no_content c most is = (record { block = 0; why = Closed }, ap state_of (closed_laid c most (c 0) is))
 
-pub drives_same : {V : Type 0} (r : Result (OpenedOver (Pair V)) (UnopenedOver (Pair V))) (since : ℕ) → drives_of (pair_result r since) ≡ (store_of r).drives
+-- a block of which the table tells nothing is no place
+pub beyond_places : (c : Content) (most n : ℕ) → blocks_in_table (table_in (c 0)) ≤ n → IsNoPlace (laid c most []) n
+beyond_places c most n high = of (laid c most []) refl
+  where
+    of : (o : Outcome LaidStore) → laid c most [] ≡ o → IsNoPlace o n
+    of (Err e) is = tt
+    of (Ok (store, places)) is =
+        let p : Parts c most store places = parts_of c most store places is in
+        let count : blocks_in_table (table_in (c 0)) ≡ store.root.blocks =
+        ap (λ x. blocks_in_table (table_in x)) p.holds ∙ ap (λ x. blocks_in_table (read_of x)) p.reads ∙ ap (λ (s : LaidStore). s.root.blocks) (sym p.made) in
+        not_in places n (λ h. let low = (places_ranged c most store places is n h).1 in Prim.omega (arith, low, count, high))
+
+-- ---- what comes back
+
+pub drives_same : {V : Type 0} (r : Result (OpenedOver (Pair V)) (UnopenedOver (Pair V))) (since : ℕ) → (store_of r).drives ≡ drives_of (pair_result r since)
 drives_same (Ok o) since = refl
 drives_same (Err e) since = refl
 
-pub bad_pair : {V : Type 0} (x y : Result State Refused) (r : Result (OpenedOver (Pair V)) (UnopenedOver (Pair V))) (since : ℕ) → x ≡ y → IfErr r (λ e. IsBad x e.why) → IfErr (pair_result r since) (λ e. IsBad y e.why)
-bad_pair x y (Ok o) since same bad = tt
-bad_pair x y (Err e) since same bad = subst (λ (z : Result State Refused). IsBad z e.why) same bad
+pub why_same : {V : Type 0} (r : Result (OpenedOver (Pair V)) (UnopenedOver (Pair V))) (since : ℕ) → why_not (pair_result r since) ≡ why_of r
+why_same (Ok o) since = refl
+why_same (Err e) since = refl
 
-pub failed_pair : {V : Type 0} (faults last_fault : V → Half → ℕ) (moment : V → ℕ) (early before : Half → ℕ) (N M : Type 0) (why : OpenRefused) (r : Result (OpenedOver (Pair V)) (UnopenedOver (Pair V))) (since : ℕ) (h : Half)
-    → early h ≤ before h → (N → M)
-    → IfErr r (λ e. e.why ≡ why → IsFailed before (faults e.store.drives) (last_fault e.store.drives) (moment e.store.drives) N h)
-    → IfErr (pair_result r since) (λ e. e.why ≡ why → IsFailed early (faults e.drives) (last_fault e.drives) (moment e.drives) M h)
-failed_pair faults last_fault moment early before N M why (Ok o) since h le to failed = tt
-failed_pair faults last_fault moment early before N M why (Err e) since h le to failed =
-    λ is. failed_since early before (faults e.store.drives) (last_fault e.store.drives) (moment e.store.drives) N M h le to (failed is)
+-- a fact of what was opened, and one of what was not
+pub ok_pair : {V : Type 0} (P : OpenedOver (Pair V) → Type 0) (Q : Opened V → Type 0) (r : Result (OpenedOver (Pair V)) (UnopenedOver (Pair V))) (since : ℕ)
+    → ((o : OpenedOver (Pair V)) → store_of r ≡ o.store → P o → Q (record { pair = o.store; table = o.table; map = o.map; heads = o.heads; since = since }))
+    → IfOk r P → IfOk (pair_result r since) Q
+ok_pair P Q (Ok o) since to p = to o refl p
+ok_pair P Q (Err e) since to p = tt
 
-module _ {V : Type 0} (tells : Type 0) (size moment : V → ℕ) (seen : V → Half → List ℕ) (may_leave : V → Half → ℕ → List ℕ → Type 0) (faults last_fault : V → Half → ℕ) where
+pub err_pair : {V : Type 0} (P : UnopenedOver (Pair V) → Type 0) (Q : Unopened V → Type 0) (r : Result (OpenedOver (Pair V)) (UnopenedOver (Pair V))) (since : ℕ)
+    → ((e : UnopenedOver (Pair V)) → P e → Q (record { drives = e.store.drives; why = e.why })) → IfErr r P → IfErr (pair_result r since) Q
+err_pair P Q (Ok o) since to p = tt
+err_pair P Q (Err e) since to p = to e p
+
+pub since_pair : {V : Type 0} (r : Result (OpenedOver (Pair V)) (UnopenedOver (Pair V))) (since moment : ℕ) → since ≡ moment → IfOk (pair_result r since) (λ o. o.since ≡ moment)
+since_pair (Ok o) since moment at = at
+since_pair (Err e) since moment at = tt
+
+-- a mending that a half ended
+pub bad_call : (fault : PairFault) (outcome : Result State Refused) → IsHalfFault fault → IsBad outcome (refused_call fault)
+bad_call (ReadFault h) outcome is = tt
+bad_call (WriteFault h) outcome is = tt
+bad_call (BothClosed n) outcome is = absurd is
+bad_call (BadPage n why) outcome is = absurd is
+
+pub untorn_call : (fault : PairFault) → IsUnwritten {T = Unit {0}} (Err (refused_call fault)) → IsUntorn {T = Unit {0}} (Err fault)
+untorn_call (ReadFault h) un = tt
+untorn_call (WriteFault h) un = un
+untorn_call (BothClosed n) un = tt
+untorn_call (BadPage n why) un = tt
+
+-- ---- two halves where nothing is pending
+
+module _ {V : Type 0} (v : Device V) where
   -- what is settled where nothing is pending is settled in everything that a crash may leave
-  at_rest_always : (d : V) → IsAtRest seen moment may_leave d → (n : ℕ) → IsSettled n (halves_seen seen d) → IsSettledAlways may_leave d (moment d) n
+  at_rest_always : (d : V) → AtRest v d → (n : ℕ) → IsSettled n (halves_seen v.seen d) → IsSettledAlways v.may_leave d (v.moment d) n
   at_rest_always d rest n s x left =
       subst (λ (l : List ℕ). IsSettled n (let y : Halves = record { a = x.a; b = l } in y)) (sym (rest B x.b left.1))
-      (subst (λ (l : List ℕ). IsSettled n (let y : Halves = record { a = l; b = seen d B } in y)) (sym (rest A x.a left.0)) s)
+      (subst (λ (l : List ℕ). IsSettled n (let y : Halves = record { a = l; b = v.seen d B } in y)) (sym (rest A x.a left.0)) s)
 
-  pub mended_always : (d : V) → IsAtRest seen moment may_leave d → IsMended (λ n. IsSettled n (halves_seen seen d)) (content_of (halves_seen seen d)) (size d)
-      → IsMended (λ n. IsSettledAlways may_leave d (moment d) n) (content_of (halves_seen seen d)) (size d)
+  pub mended_always : (d : V) → AtRest v d → IsMended (λ n. IsSettled n (halves_seen v.seen d)) (contents v d) (v.size d)
+      → IsMended (λ n. IsSettledAlways v.may_leave d (v.moment d) n) (contents v d) (v.size d)
   mended_always d rest m = record {
     table = at_rest_always d rest 0 m.table;
     others = λ bytes root here reads n low in_size. at_rest_always d rest n (m.others bytes root here reads n low in_size);
   }
 
+  -- a crash leaves the contents that reads give
+  pub left_at_rest : (d : V) → AtRest v d → (f : Content) → ContentsLeft v.may_leave d (v.moment d) f → f ≡ contents v d
+  left_at_rest d rest f left =
+      fun_ext
+      (λ n. left.2 n
+      ∙ ap (λ l. content_of (let y : Halves = record { a = l; b = left.0.b } in y) n) (rest A left.0.a left.1.0)
+      ∙ ap (λ l. content_of (let y : Halves = record { a = v.seen d A; b = l } in y) n) (rest B left.0.b left.1.1))
+
   -- changes of a store on two halves are those of the halves
   pub halves_change : (a b : Pair V) (R : Content → Content → Type 0)
-      → Changes (λ (p : Pair V). moment p.drives) (λ (p : Pair V). ContentsLeft may_leave p.drives) a b R → Changes moment (ContentsLeft may_leave) a.drives b.drives R
+      → Changes (λ (p : Pair V). v.moment p.drives) (λ (p : Pair V). ContentsLeft v.may_leave p.drives) a b R → Changes v.moment (ContentsLeft v.may_leave) a.drives b.drives R
   halves_change a b R ch = record { later = ch.later; last = ch.last; stuck = ch.stuck; past = ch.past; own = ch.own }
 
-  module _ (a m : Pair V)
-      (mended : OnlyMended tells (λ (p : Pair V). size p.drives) (λ p. moment p.drives) (λ p. content_of (halves_seen seen p.drives)) (λ p. ContentsLeft may_leave p.drives) (λ p. faults p.drives) (λ p. last_fault p.drives) (λ p. IsAtRest seen moment may_leave p.drives) a m) where
-    pub pair_found : tells → found (content_of (halves_seen seen m.drives)) (size m.drives) ≡ found (content_of (halves_seen seen a.drives)) (size a.drives)
-    pair_found told =
-        ap (λ n. found (content_of (halves_seen seen m.drives)) n) mended.size_same ∙ ap (λ f. found f (size a.drives)) (fun_ext (mended.same told))
+  -- an opening that began at an earlier moment, where nothing was pending
+  pub opening_since : (p : Ghosts (Pair V)) (start : V) (o : OpenedOver (Pair V)) (since : ℕ) → since ≡ v.moment start
+      → ((x : Pair V) → p.moment x ≡ v.moment x.drives) → ((x : Pair V) (t : ℕ) (f : Content) → p.may_leave x t f → ContentsLeft v.may_leave x.drives t f)
+      → AtRest v start
+      → Changes v.moment (ContentsLeft v.may_leave) start o.store.drives (SameFound (p.size o.store)) → SameFound (p.size o.store) (contents v start) (p.content o.store)
+      → IsOpening p o → IsOpening p (record o { since = since })
+  opening_since p start o since at clock leaves rest images same is = record {
+    opened = is.opened;
+    settled = is.settled;
+    always = is.always;
+    before = (let later = images.later in let now = clock o.store in omega (arith, later, at, now));
+    since = λ t f low high may.
+        let now = clock o.store in
+        let from = images.own t f (omega (arith, low, at)) (omega (arith, high, now)) (leaves o.store t f may) in
+        from.2 ∙ ap (λ x. found x (p.size o.store)) (left_at_rest start rest from.0 from.1) ∙ sym same;
+  }
 
-    pub pair_same : (z : V) → tells → SameFound (size m.drives) (content_of (halves_seen seen m.drives)) (content_of (halves_seen seen z))
-        → SameFound (size a.drives) (content_of (halves_seen seen a.drives)) (content_of (halves_seen seen z))
-    pair_same z told same = ap (λ n. found (content_of (halves_seen seen z)) n) (sym mended.size_same) ∙ same ∙ pair_found told
-
-    pub mend_images : tells → IsAtRest seen moment may_leave a.drives → Changes (λ (p : Pair V). moment p.drives) (λ (p : Pair V). ContentsLeft may_leave p.drives) a m (SameFound (size a.drives))
-    mend_images told rest = read_images (λ (p : Pair V). moment p.drives) (λ (p : Pair V). ContentsLeft may_leave p.drives) (size a.drives) a m (mended.images told rest)
-
-    pub pair_images : (z : Pair V) → tells → IsAtRest seen moment may_leave a.drives
-        → Changes (λ (p : Pair V). moment p.drives) (λ (p : Pair V). ContentsLeft may_leave p.drives) m z (SameFound (size m.drives))
-        → Changes moment (ContentsLeft may_leave) a.drives z.drives (SameFound (size a.drives))
-    pair_images z told rest images =
-        halves_change a z (SameFound (size a.drives))
-        (goes_on (λ (p : Pair V). moment p.drives) (λ (p : Pair V). ContentsLeft may_leave p.drives) a m z
-        (SameFound (size a.drives)) (SameFound (size a.drives)) (SameFound (size a.drives)) (SameFound (size a.drives))
-        (mend_images told rest) (leaves_now (λ (p : Pair V). moment p.drives) (λ (p : Pair V). ContentsLeft may_leave p.drives) a m (SameFound (size a.drives)) (mend_images told rest))
-        (subst (λ (n : ℕ). Changes (λ (p : Pair V). moment p.drives) (λ (p : Pair V). ContentsLeft may_leave p.drives) m z (SameFound n)) mended.size_same images)
-        (λ x y l q. q) (λ x y w l q s. s ∙ q))
-
-  pub opened_pair : (n k : ℕ) (r : Result (OpenedOver (Pair V)) (UnopenedOver (Pair V))) (since : ℕ) → n ≡ k
-      → IfOk r (λ o. IsOpened (content_of (halves_seen seen o.store.drives)) n o.table o.map o.heads.items)
-      → IfOk (pair_result r since) (λ o. IsOpened (content_of (halves_seen seen o.pair.drives)) k o.table o.map o.heads.items)
-  opened_pair n k (Ok o) since same is = subst (λ (most : ℕ). IsOpened (content_of (halves_seen seen o.store.drives)) most o.table o.map o.heads.items) same is
-  opened_pair n k (Err e) since same is = tt
-
-  pub settled_pair : (r : Result (OpenedOver (Pair V)) (UnopenedOver (Pair V))) (since : ℕ)
-      → IfOk r (λ o. (n : ℕ) → n < length o.map → IsSettled n (halves_seen seen o.store.drives))
-      → IfOk (pair_result r since) (λ o. (n : ℕ) → n < length o.map → IsSettled n (halves_seen seen o.pair.drives))
-  settled_pair (Ok o) since is = is
-  settled_pair (Err e) since is = tt
-
-  pub always_pair : (r : Result (OpenedOver (Pair V)) (UnopenedOver (Pair V))) (since : ℕ)
-      → IfOk r (λ o. (n : ℕ) → n < length o.map → IsSettledAlways may_leave o.store.drives (moment o.store.drives) n)
-      → IfOk (pair_result r since) (λ o. (n : ℕ) → n < length o.map → IsSettledAlways may_leave o.pair.drives (moment o.pair.drives) n)
-  always_pair (Ok o) since is = is
-  always_pair (Err e) since is = tt
+-- an opening begun earlier, where each crash in between leaves the same files
+pub since_earlier : {D : Type 0} (b : Ghosts D) (o : OpenedOver D) (early : ℕ) → IsOpening b o → early ≤ o.since
+    → ((t : ℕ) (f : Content) → early ≤ t → t < o.since → b.may_leave o.store t f → SameFound (b.size o.store) (b.content o.store) f)
+    → IsOpening b (record o { since = early })
+since_earlier b o early is le more = record {
+  opened = is.opened;
+  settled = is.settled;
+  always = is.always;
+  before = (let before = is.before in omega (arith, before, le));
+  since = λ t f low high may. elim (before_or_not t o.since) [ inl less ↦ more t f low less may | inr late ↦ is.since t f late high may ];
+}
+  where
+    before_or_not : (i n : ℕ) → (i < n) ⊎ (n ≤ i)
+    before_or_not i n = Prim.grind arith

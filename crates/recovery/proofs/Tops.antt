@@ -1,11 +1,16 @@
--- Members that a last version names, and what becomes of a store once they are cleared.
-use Rattle.std.proofs.Common.{◌≡◌, ◌≢◌, ℕ, zero, suc, ◌+◌, ◌-◌, ◌<◌, ◌==◌, Bool, true, false, List, [], length, ◌⊎◌, inl, inr, Option, Some, None, Ok, option_map, refl, sym, ap, subst, ◌∙◌, arith, slice_get, map}
+-- Members that a last version names: where it lies, and what becomes of a store once they are cleared.
+use Rattle.std.proofs.Common.{◌≡◌, ℕ, zero, suc, ◌-◌, ◌<◌, ◌==◌, true, false, List, [], ◌++◌, length, Option, Some, None, Ok, option_map, refl, sym, ap, subst, ◌∙◌, arith, slice_get}
+use Rattle.std.proofs.lemmas.Bool.Decides.{nat_tests}
 use Rattle.page_codec.specs.Values.{VersionValue}
 use Rattle.page_codec.specs.Causes.{version_of}
+use Rattle.page_codec.proofs.FrameLaws.{IsBlock}
+use Rattle.pair_store.specs.Blocks.{SameOthers}
+use Rattle.pair_store.specs.Pages.{without_members as cleared_bytes}
 use Rattle.store_model.specs.Laid.{LaidVersion, LaidFile, last_laid}
 use Rattle.store_model.specs.Members.{names_none, tops_from}
 use Rattle.store_model.specs.Found.{LaidStore, laid, found}
 use Rattle.store_model.specs.Changes.{version_in_block, Rewrites, without_members, cleared, changed_at, file_with, store_with, LiesIn, IsTop, IsLinked, AreLinked}
+use Rattle.store_model.proofs.PlaceLists.{IsIn, in_along, in_left}
 use Rattle.store_model.proofs.Steps.{Content, InRange}
 use Rattle.store_model.proofs.Rewriting.{same_version, Bytes, bytes_of}
 use Rattle.store_model.proofs.Chaining.{last_from}
@@ -13,28 +18,34 @@ use Rattle.store_model.proofs.Filing.{FilesAgain, files_again}
 use Rattle.store_model.proofs.LastVersions.{last_is}
 use Rattle.store_model.proofs.Stores.{unlinked, Parts, parts_of}
 use Rattle.store_model.proofs.Hits.{tops_outcome}
-use Rattle.store_model.proofs.Edits.{some_is, none_some, changed_other, changed_same, changed_length, map_changed, within}
+use Rattle.store_model.proofs.Edits.{some_is, none_some, changed_same, changed_length}
+use Rattle.store_model.proofs.PageBytes.{rewrites_members}
 use Rattle.store_model.proofs.Clearing.{top_kept, clearing_keeps}
 use Rattle.store_model.proofs.LastLinks.{linked_after, cleared_keeps}
-use Rattle.std.proofs.lemmas.Bool.Decides.{nat_tests}
-use Rattle.pair_store.specs.ContentLaws.{decide}
 use Rattle.store_check.specs.declared.chain.Chain.{Chain}
 use Rattle.store_check.specs.declared.version.FoundVersion.{FoundVersion}
 use Rattle.store_check.specs.Versions.{shown_of}
-use Rattle.store_check.specs.Files.{chain_of, chains_of}
-use Rattle.recovery.specs.Rolling.{IsLike, Stands, RollingLinks, RollingTops, lasts_of}
-use Rattle.recovery.proofs.Heads.{MapAt, map_at, map_get, map_long, KeptOf, kept_of, kept_none, KeepsHead, heads_kept}
+use Rattle.store_check.specs.Files.{chain_of}
+use Rattle.recovery.specs.declared.known.Known.{Known}
+use Rattle.recovery.specs.declared.rolling.Step.TheVariants.{ClearMembers}
+use Rattle.recovery.specs.Opening.{NamesNone}
+use Rattle.recovery.specs.Rolling.{Rolling}
+use Rattle.recovery.proofs.Heads.{MapAt, map_at, chain_shown, KeepsHead}
+use Rattle.recovery.proofs.Places.{in_files_in}
+use Rattle.recovery.proofs.Turning.{FileAt, file_at, PageAt, Turn}
 
 -- ---- a top where it lies
 
-pub record TopPage (c : Content) (store : LaidStore) (version : LaidVersion) : Type 0 where
+pub record TopPage (c : Content) (store : LaidStore) (places : List ℕ) (version : LaidVersion) : Type 0 where
   pub body : List ℕ
   pub holds : c version.block ≡ Some body
   pub page : VersionValue
   pub reads : version_of body ≡ Ok page
   pub low : InRange store.root.blocks version.block
+  pub in_places : IsIn places version.block
 
-pub top_page : (c : Content) (most : ℕ) (store : LaidStore) (places : List ℕ) → laid c most [] ≡ Ok (store, places) → (version : LaidVersion) → IsTop store version → TopPage c store version
+pub top_page : (c : Content) (most : ℕ) (store : LaidStore) (places : List ℕ) → laid c most [] ≡ Ok (store, places)
+    → (version : LaidVersion) → IsTop store version → TopPage c store places version
 top_page c most store places e version top =
     let p : Parts c most store places = parts_of c most store places e in
     let count : ℕ = p.root.blocks in
@@ -44,7 +55,12 @@ top_page c most store places e version top =
     let fa : FilesAgain c c count (suc top.object) 1 top.object top.file p.rows p.in_table p.files p.in_files =
     files_again c c count (suc top.object) 1 top.object top.file p.rows p.in_table p.files p.in_files (length top.file.versions - 1) version (omega arith) p.chains here top.last in
     let is : version ≡ last_from fa.head fa.rest = last_is top.file.versions fa.head fa.rest version fa.list top.last in
-    let b : Bytes (c version.block) fa.last.page = bytes_of (c version.block) fa.last.page (ap (λ (v : LaidVersion). version_in_block c v.block) is ∙ fa.last.was) in
+    let b : Bytes (c version.block) fa.last.page =
+    bytes_of (c version.block) fa.last.page (ap (λ (v : LaidVersion). version_in_block c v.block) is ∙ fa.last.was) in
+    let in_files : IsIn p.in_files version.block =
+    subst (λ (v : LaidVersion). IsIn p.in_files v.block) (sym is)
+    (in_along (fa.new ++ p.in_table) p.in_files (sym fa.grown) (last_from fa.head fa.rest).block
+    (in_left fa.new p.in_table (last_from fa.head fa.rest).block fa.last.here)) in
     record {
       body = b.bytes;
       holds = b.holds;
@@ -52,48 +68,8 @@ top_page c most store places e version top =
       reads = b.reads;
       low = subst (λ (s : LaidStore). InRange s.root.blocks version.block) (sym p.made)
           (subst (λ (v : LaidVersion). InRange count v.block) (sym is) (fa.each (last_from fa.head fa.rest).block fa.last.here));
+      in_places = in_files_in c most store places p version.block in_files;
     }
-
--- ---- the last version of a file, as it is kept
-
--- a last version that is kept so
-record LastShown (o : Option LaidVersion) (shown : FoundVersion) : Type 0 where
-  version : LaidVersion
-  is : o ≡ Some version
-  same : shown_of version ≡ shown
-
-last_shown : (o : Option LaidVersion) (shown : FoundVersion) → option_map shown_of o ≡ Some shown → LastShown o shown
-last_shown None shown e = none_some e
-last_shown (Some v) shown e = record { version = v; is = refl; same = some_is e }
-
-none_shown : (o : Option LaidVersion) → option_map shown_of o ≡ None → o ≡ None
-none_shown None e = refl
-none_shown (Some v) e = none_some (sym e)
-
--- what the file at place k has now, where its last version is kept in this chain
-record FileNow (store : LaidStore) (k : ℕ) (chain : Chain) : Type 0 where
-  file : LaidFile
-  listed : slice_get store.files k ≡ Some file
-  version : LaidVersion
-  last : last_laid file.versions ≡ Some version
-  same : shown_of version ≡ chain.last
-
-lasts_at : (files : List LaidFile) (k : ℕ) (shown : Option FoundVersion) → slice_get (lasts_of files) k ≡ Some shown → MapAt (λ (file : LaidFile). option_map shown_of (last_laid file.versions)) files k shown
-lasts_at files k shown e = map_at (λ (file : LaidFile). option_map shown_of (last_laid file.versions)) files k shown e
-
-file_now : (c : Content) (s : ℕ → Type 0) (most : ℕ) (before : LaidStore) (places : List ℕ) (k : ℕ) (chain : Chain) (r : RollingTops c s most before places k)
-    → slice_get (chains_of before.files) k ≡ Some (Some chain) → FileNow r.stands.store k chain
-file_now c s most before places k chain r kept =
-    let m : MapAt (λ (file : LaidFile). chain_of file.versions) before.files k (Some chain) = map_at (λ (file : LaidFile). chain_of file.versions) before.files k (Some chain) kept in
-    let ch : KeptOf m.item.versions chain = kept_of m.item.versions chain m.is in
-    let was : slice_get (lasts_of before.files) k ≡ Some (Some chain.last) =
-    map_get (λ (file : LaidFile). option_map shown_of (last_laid file.versions)) before.files k
-    ∙ ap (λ o. option_map (λ (file : LaidFile). option_map shown_of (last_laid file.versions)) o) m.listed
-    ∙ ap (λ o. Some (option_map shown_of o)) ch.is ∙ ap (λ v. Some (Some v)) (sym ch.shown) in
-    let n : MapAt (λ (file : LaidFile). option_map shown_of (last_laid file.versions)) r.stands.store.files k (Some chain.last) =
-    lasts_at r.stands.store.files k (Some chain.last) (r.ahead k (omega arith) ∙ was) in
-    let l : LastShown (last_laid n.item.versions) chain.last = last_shown (last_laid n.item.versions) chain.last n.is in
-    record { file = n.item; listed = n.listed; version = l.version; last = l.is; same = l.same }
 
 -- ---- the top of a file
 
@@ -102,162 +78,141 @@ pub record TopAt (store : LaidStore) (k block : ℕ) : Type 0 where
   pub top : IsTop store version
   pub of_object : top.object ≡ k
   pub block_is : version.block ≡ block
-  pub links : AreLinked store version.members
 
-some_names : (v : LaidVersion) (b : Bool) → names_none v ≡ b → (length v.members ≡ 0 → ⊥) → names_none v ≡ false
-some_names v b e some = of (length v.members) some
+some_names : (v : LaidVersion) → (length v.members ≡ 0 → ⊥) → names_none v ≡ false
+some_names v some = of (length v.members) some
   where
     of : (n : ℕ) → (n ≡ 0 → ⊥) → (n == 0) ≡ false
     of zero h = absurd (h refl)
     of (suc n) h = Prim.grind (arith, nat_tests)
 
-pub top_at : (c : Content) (s : ℕ → Type 0) (most : ℕ) (before : LaidStore) (places : List ℕ) (k : ℕ) (chain : Chain) (block : ℕ) (r : RollingTops c s most before places k)
-    → slice_get (chains_of before.files) k ≡ Some (Some chain) → chain.last.block ≡ block → (length chain.last.members ≡ 0 → ⊥) → TopAt r.stands.store k block
-top_at c s most before places k chain block r kept is some =
-    let f : FileNow r.stands.store k chain = file_now c s most before places k chain r kept in
-    let members : f.version.members ≡ chain.last.members = ap (λ (v : FoundVersion). v.members) f.same in
-    record {
-      version = f.version;
-      top = record {
-        object = k;
-        file = f.file;
-        listed = f.listed;
-        last = f.last;
-        names = some_names f.version (names_none f.version) refl (λ e. some (ap (λ l. length l) (sym members) ∙ e));
-      };
-      of_object = refl;
-      block_is = ap (λ (v : FoundVersion). v.block) f.same ∙ is;
-      links = λ i member file listed there. r.linked (member.object - 1) file there;
+pub top_at : (store : LaidStore) (k : ℕ) (file : LaidFile) (chain : Chain) → slice_get store.files k ≡ Some file
+    → option_map shown_of (last_laid file.versions) ≡ Some chain.last → (length chain.last.members ≡ 0 → ⊥) → TopAt store k chain.last.block
+top_at store k file chain listed shown some = of (last_laid file.versions) refl shown
+  where
+    of : (o : Option LaidVersion) → last_laid file.versions ≡ o → option_map shown_of o ≡ Some chain.last → TopAt store k chain.last.block
+    of None is e = none_some e
+    of (Some v) is e =
+        let same : shown_of v ≡ chain.last = some_is e in
+        record {
+          version = v;
+          top = record {
+            object = k;
+            file = file;
+            listed = listed;
+            last = is;
+            names = some_names v (λ none. some (ap (λ (x : FoundVersion). length x.members) (sym same) ∙ none));
+          };
+          of_object = refl;
+          block_is = ap (λ (x : FoundVersion). x.block) same;
+        }
+
+-- ---- the step
+
+module _ (most : ℕ) (known : Known) (k : ℕ) (c : Content) (s : ℕ → Type 0) (r : Rolling ClearMembers most known k c s) where
+  -- the last version of the file that the step comes to is the one that is kept
+  pub last_now : (o : Option Chain) → slice_get known.chains.items k ≡ Some o → (now : LaidFile) → slice_get r.stands.store.files k ≡ Some now
+      → option_map shown_of (last_laid now.versions) ≡ option_map (λ (chain : Chain). chain.last) o
+  last_now o kept now listed =
+      let m : MapAt (λ (file : LaidFile). chain_of file.versions) r.before.files k o =
+      map_at (λ (file : LaidFile). chain_of file.versions) r.before.files k o (ap (λ l. slice_get l k) (sym r.is.chains) ∙ kept) in
+      r.ahead k m.item now (omega arith) m.listed listed ∙ chain_shown m.item.versions o m.is
+
+  -- a file whose last version names no members
+  pub top_none : (o : Option Chain) → slice_get known.chains.items k ≡ Some o → ((chain : Chain) → o ≡ Some chain → length chain.last.members ≡ 0)
+      → (now : LaidFile) → slice_get r.stands.store.files k ≡ Some now → NamesNone now
+  top_none o kept none now listed version last =
+      of o (sym (ap (option_map shown_of) last) ∙ last_now o kept now listed) none
+    where
+      of : (p : Option Chain) → Some (shown_of version) ≡ option_map (λ (chain : Chain). chain.last) p
+          → ((chain : Chain) → p ≡ Some chain → length chain.last.members ≡ 0) → names_none version ≡ true
+      of None e nothing = none_some (sym e)
+      of (Some chain) e nothing =
+          let long : length version.members ≡ 0 = ap (λ (v : FoundVersion). length v.members) (some_is e) ∙ nothing chain refl in
+          ap (λ n. n == 0) long
+
+  -- each file is linked
+  all_linked : (j : ℕ) (file : LaidFile) → slice_get r.stands.store.files j ≡ Some file → IsLinked file
+  all_linked j file listed =
+      let f : FileAt r.before.files j = file_at r.stands.store.files r.before.files j file (sym r.stands.like.entries) listed in
+      r.keeps j f.file file f.listed listed
+
+  clear_keeps : KeepsHead cleared
+  clear_keeps = record { serial = λ v. refl; block = λ v. refl; own = λ v. refl }
+
+  module _ (chain : Chain) (block : ℕ) (kept : slice_get known.chains.items k ≡ Some (Some chain)) (last : chain.last.block ≡ block)
+      (some : length chain.last.members ≡ 0 → ⊥) where
+    now_at : FileAt r.stands.store.files k
+    now_at =
+        let m : MapAt (λ (file : LaidFile). chain_of file.versions) r.before.files k (Some chain) =
+        map_at (λ (file : LaidFile). chain_of file.versions) r.before.files k (Some chain) (ap (λ l. slice_get l k) (sym r.is.chains) ∙ kept) in
+        file_at r.before.files r.stands.store.files k m.item r.stands.like.entries m.listed
+
+    the_top : TopAt r.stands.store k block
+    the_top =
+        subst (λ (n : ℕ). TopAt r.stands.store k n) last
+        (top_at r.stands.store k now_at.file chain now_at.listed (last_now (Some chain) kept now_at.file now_at.listed) some)
+
+    its_page : TopPage c r.stands.store r.stands.order the_top.version
+    its_page = top_page c most r.stands.store r.stands.order r.stands.laid the_top.version the_top.top
+
+    pub top_page_at : PageAt ClearMembers c s block
+    top_page_at = record {
+      body = its_page.body;
+      holds = ap c (sym the_top.block_is) ∙ its_page.holds;
+      page = its_page.page;
+      reads = its_page.reads;
+      ready = tt;
+      settled = subst s the_top.block_is
+          (r.stands.each the_top.version.block (subst (λ (root : _). the_top.version.block < root.blocks) r.stands.like.root its_page.low.1));
     }
 
--- ---- the state between two files
+    pub top_below : block < r.stands.store.root.blocks
+    top_below = subst (λ (n : ℕ). n < r.stands.store.root.blocks) the_top.block_is its_page.low.1
 
-before_or_at : (j k : ℕ) → j < k + 1 → (j < k) ⊎ (j ≡ k)
-before_or_at j k low = Prim.grind arith
+    place : ℕ
+    place = length the_top.top.file.versions - 1
 
--- a file whose last version names no members
-names_nothing : (c : Content) (s : ℕ → Type 0) (most : ℕ) (before : LaidStore) (places : List ℕ) (k : ℕ) (o : Option Chain) (r : RollingTops c s most before places k)
-    → slice_get (chains_of before.files) k ≡ Some o → ((chain : Chain) → o ≡ Some chain → length chain.last.members ≡ 0)
-    → (file : LaidFile) (version : LaidVersion) → slice_get r.stands.store.files k ≡ Some file → last_laid file.versions ≡ Some version → names_none version ≡ true
-names_nothing c s most before places k (Some chain) r kept none file version listed last =
-    let f : FileNow r.stands.store k chain = file_now c s most before places k chain r kept in
-    let file_is : f.file ≡ file = some_is (sym f.listed ∙ listed) in
-    let version_is : f.version ≡ version = some_is (sym f.last ∙ ap (λ (x : LaidFile). last_laid x.versions) file_is ∙ last) in
-    let long : length version.members ≡ 0 =
-    ap (λ (v : LaidVersion). length v.members) (sym version_is) ∙ ap (λ (v : FoundVersion). length v.members) f.same ∙ none chain refl in
-    ap (λ n. n == 0) long
-names_nothing c s most before places k None r kept none file version listed last =
-    let m : MapAt (λ (file : LaidFile). chain_of file.versions) before.files k None = map_at (λ (file : LaidFile). chain_of file.versions) before.files k None kept in
-    let was : slice_get (lasts_of before.files) k ≡ Some None =
-    map_get (λ (file : LaidFile). option_map shown_of (last_laid file.versions)) before.files k
-    ∙ ap (λ o. option_map (λ (file : LaidFile). option_map shown_of (last_laid file.versions)) o) m.listed
-    ∙ ap (λ o. Some (option_map shown_of o)) (kept_none m.item.versions m.is) in
-    let n : MapAt (λ (file : LaidFile). option_map shown_of (last_laid file.versions)) r.stands.store.files k None =
-    lasts_at r.stands.store.files k None (r.ahead k (omega arith) ∙ was) in
-    let file_is : n.item ≡ file = some_is (sym n.listed ∙ listed) in
-    none_some (sym (none_shown (last_laid n.item.versions) n.is) ∙ ap (λ (x : LaidFile). last_laid x.versions) file_is ∙ last)
+    top_listed : slice_get r.stands.store.files k ≡ Some the_top.top.file
+    top_listed = ap (slice_get r.stands.store.files) (sym the_top.of_object) ∙ the_top.top.listed
 
-pub top_none : (c : Content) (s : ℕ → Type 0) (most : ℕ) (before : LaidStore) (places : List ℕ) (k : ℕ) (o : Option Chain) → RollingTops c s most before places k
-    → slice_get (chains_of before.files) k ≡ Some o → ((chain : Chain) → o ≡ Some chain → length chain.last.members ≡ 0) → RollingTops c s most before places (k + 1)
-top_none c s most before places k o r kept none =
-    record {
-      stands = r.stands;
-      linked = r.linked;
-      ahead = λ j low. r.ahead j (omega (arith, low));
-      cleared = λ j file version low listed last. elim (before_or_at j k low) [
-        | inl less ↦ r.cleared j file version less listed last
-        | inr at ↦ names_nothing c s most before places k o r kept none file version (ap (slice_get r.stands.store.files) (sym at) ∙ listed) last
-      ];
-    }
+    clear_rewritten : (x y : Content) → laid x most [] ≡ Ok (r.stands.store, r.stands.order) → IsBlock its_page.body
+        → x block ≡ Some its_page.body → y block ≡ Some (cleared_bytes its_page.body) → SameOthers block x y
+        → LiesIn y most (store_with cleared k place r.stands.store) r.stands.order × (found y most ≡ found x most)
+    unfolding place
+    clear_rewritten x y e whole at is others =
+        let rewrites : Rewrites x y the_top.version.block without_members =
+        subst (λ (n : ℕ). Rewrites x y n without_members) (sym the_top.block_is)
+        (rewrites_members x y block its_page.body its_page.page whole at its_page.reads is (λ m off. sym (others m off))) in
+        let links : AreLinked r.stands.store the_top.version.members = λ i member file listed there. all_linked (member.object - 1) file there in
+        subst (λ (o : ℕ). LiesIn y most (store_with cleared o (length the_top.top.file.versions - 1) r.stands.store) r.stands.order × (found y most ≡ found x most))
+        the_top.of_object (clearing_keeps x y most r.stands.store r.stands.order e the_top.version the_top.top links rewrites)
 
-clear_keeps : KeepsHead cleared
-clear_keeps = record { serial = λ v. refl; block = λ v. refl; own = λ v. refl }
+    clear_last : last_laid (file_with cleared place the_top.top.file).versions ≡ Some (cleared the_top.version)
+    unfolding place
+    clear_last =
+        let versions = the_top.top.file.versions in
+        let long : length (changed_at cleared (length versions - 1) versions) ≡ length versions = changed_length cleared (length versions - 1) versions in
+        ap (λ n. slice_get (changed_at cleared (length versions - 1) versions) (n - 1)) long
+        ∙ changed_same cleared (length versions - 1) versions the_top.version the_top.top.last
 
--- the members were cleared
-module _ (c d : Content) (s t : ℕ → Type 0) (most : ℕ) (before : LaidStore) (places : List ℕ) (k : ℕ) (block : ℕ) (r : RollingTops c s most before places k)
-    (a : TopAt r.stands.store k block) (rw : Rewrites c d a.version.block without_members) (settles : (n : ℕ) → s n → t n) where
-  place : ℕ
-  place = length a.top.file.versions - 1
+    clear_done : NamesNone (file_with cleared place the_top.top.file)
+    clear_done version at =
+        let version_is : cleared the_top.version ≡ version = some_is (sym clear_last ∙ at) in
+        ap (λ (v : LaidVersion). names_none v) (sym version_is)
 
-  clear_store : LaidStore
-  clear_store = store_with cleared a.top.object place r.stands.store
-
-  clear_file : LaidFile
-  clear_file = file_with cleared place a.top.file
-
-  clear_elsewhere : (j : ℕ) → j ≢ k → slice_get clear_store.files j ≡ slice_get r.stands.store.files j
-  unfolding clear_store place
-  clear_elsewhere j off = changed_other (file_with cleared place) a.top.object j r.stands.store.files (λ e. off (e ∙ a.of_object))
-
-  clear_here : slice_get clear_store.files k ≡ Some clear_file
-  unfolding clear_store clear_file place
-  clear_here = ap (slice_get (changed_at (file_with cleared place) a.top.object r.stands.store.files)) (sym a.of_object)
-      ∙ changed_same (file_with cleared place) a.top.object r.stands.store.files a.top.file a.top.listed
-
-  clear_last : last_laid clear_file.versions ≡ Some (cleared a.version)
-  unfolding clear_file place
-  clear_last =
-      let long : length (changed_at cleared place a.top.file.versions) ≡ length a.top.file.versions = changed_length cleared place a.top.file.versions in
-      ap (λ n. slice_get (changed_at cleared place a.top.file.versions) (n - 1)) long
-      ∙ changed_same cleared place a.top.file.versions a.version a.top.last
-
-  clear_lies : LiesIn d most clear_store r.stands.order × (found d most ≡ found c most)
-  unfolding clear_store place
-  clear_lies = clearing_keeps c d most r.stands.store r.stands.order r.stands.laid a.version a.top a.links rw
-
-  clear_like : IsLike before clear_store
-  unfolding clear_store place
-  clear_like = record {
-    root = r.stands.like.root;
-    entries = map_changed (λ (file : LaidFile). file.entry) (file_with cleared place) a.top.object r.stands.store.files (λ file. refl) ∙ r.stands.like.entries;
-    heads = heads_kept cleared place a.top.object r.stands.store.files clear_keeps ∙ r.stands.like.heads;
-  }
-
-  clear_stands : Stands d t most before places
-  clear_stands = record {
-    store = clear_store;
-    order = clear_lies.0.order;
-    laid = clear_lies.0.laid;
-    same = λ n. clear_lies.0.same n ∙ r.stands.same n;
-    like = clear_like;
-    table = settles 0 r.stands.table;
-    each = λ n low. settles n (r.stands.each n low);
-  }
-
-  pub top_on : RollingTops d t most before places (k + 1)
-  unfolding clear_stands clear_file clear_store
-  top_on = record {
-    stands = clear_stands;
-    linked = λ j file listed. elim (decide j k) [
-      | inl at ↦ subst IsLinked (some_is (sym clear_here ∙ ap (slice_get clear_store.files) (sym at) ∙ listed))
-          (linked_after cleared place a.top.file cleared_keeps (r.linked a.top.object a.top.file a.top.listed))
-      | inr off ↦ r.linked j file (sym (clear_elsewhere j off) ∙ listed)
-    ];
-    ahead = λ j low.
-        map_get (λ (file : LaidFile). option_map shown_of (last_laid file.versions)) clear_store.files j
-        ∙ ap (λ o. option_map (λ (file : LaidFile). option_map shown_of (last_laid file.versions)) o) (clear_elsewhere j (λ e. Prim.omega (arith, low, e)))
-        ∙ sym (map_get (λ (file : LaidFile). option_map shown_of (last_laid file.versions)) r.stands.store.files j)
-        ∙ r.ahead j (Prim.omega (arith, low));
-    cleared = λ j file version low listed last. elim (before_or_at j k low) [
-      | inl less ↦ r.cleared j file version less (sym (clear_elsewhere j (λ e. Prim.omega (arith, less, e))) ∙ listed) last
-      | inr at ↦
-          let file_is : clear_file ≡ file = some_is (sym clear_here ∙ ap (slice_get clear_store.files) (sym at) ∙ listed) in
-          let version_is : cleared a.version ≡ version = some_is (sym clear_last ∙ ap (λ (x : LaidFile). last_laid x.versions) file_is ∙ last) in
-          ap (λ (v : LaidVersion). names_none v) (sym version_is)
-    ];
-  }
-
--- ---- from links to tops
-
--- the links of all files are set, and no members were looked at yet
-pub tops_begin : (c : Content) (s : ℕ → Type 0) (most : ℕ) (before : LaidStore) (places : List ℕ) → RollingLinks c s most before places (length before.files) → RollingTops c s most before places 0
-tops_begin c s most before places r =
-    let entries : length (map (λ (file : LaidFile). file.entry) r.stands.store.files) ≡ length (map (λ (file : LaidFile). file.entry) before.files) = ap (λ l. length l) r.stands.like.entries in
-    let long : length r.stands.store.files ≡ length before.files =
-    sym (map_long (λ (file : LaidFile). file.entry) r.stands.store.files) ∙ entries ∙ map_long (λ (file : LaidFile). file.entry) before.files in
-    record {
-      stands = r.stands;
-      linked = λ j file listed. let low : j < length r.stands.store.files = within r.stands.store.files j file listed in r.linked j file (omega (arith, low, long)) listed;
-      ahead = λ j low. r.lasts j;
-      cleared = λ j file version low listed last. absurd (omega (arith, low));
+    -- the members are cleared
+    pub clear_turn : Turn ClearMembers most known k c s r block cleared_bytes
+    unfolding top_page_at
+    clear_turn = record {
+      page = top_page_at;
+      low = top_below;
+      file = the_top.top.file;
+      listed = top_listed;
+      place = place;
+      change = cleared;
+      keeps_head = clear_keeps;
+      rewritten = clear_rewritten;
+      kept = λ was at. linked_after cleared place the_top.top.file cleared_keeps (all_linked k the_top.top.file top_listed);
+      done = clear_done;
     }

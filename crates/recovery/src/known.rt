@@ -3,23 +3,22 @@ ghost use Rattle.std.specs.Prelude.{◌≡◌, ℕ, ◌<◌, ◌≤◌, List, Op
 ghost use Rattle.drives.specs.declared.device.Half.{Half};
 ghost use Rattle.store_model.specs.Found.{laid};
 ghost use Rattle.store_check.specs.declared.chain.Chain.{Chain};
-ghost use Rattle.store_check.specs.Checked.{IsMended};
 ghost use Rattle.store_check.specs.Since.{OnlyRead};
-ghost use Rattle.version_chain.specs.declared.head.Head.{Head};
+ghost use Rattle.afs_base.specs.declared.head.Head.{Head};
 ghost use Rattle.recovery.specs.declared.refused.OpenRefused.{OpenRefused};
-ghost use Rattle.recovery.specs.Opening.{IsFailed, IsNoStore};
+ghost use Rattle.recovery.specs.Opening.{IsFailed, IsNoStore, IsReadable};
 ghost use Rattle.recovery.specs.Known.{IsNoFault, Knows, head_from, heads_from};
 
 use crate::refused::OpenRefused;
+use afs_base::Head;
 use block_map::BlockMap;
 use page_codec::{Table, Why};
 use pair_store::Blocks;
 use std::alloc::Global;
 use store_check::{Chain, Checked, check};
-use version_chain::Head;
 
-/// A lawful store: its table, which blocks are in use, what is kept of the file of each object where it is live, and what
-/// is told of it.
+/// A lawful store: its table, which blocks are in use, what is kept of the file of each object
+/// where it is live, and what is told of it.
 #[derive(Drop)]
 pub struct Known {
     pub table: Table,
@@ -28,12 +27,13 @@ pub struct Known {
     pub heads: Vec<Option<Head>>,
 }
 
-/// What is told of a file whose last version is in a block of a store of so many blocks. Where contents are told it is in
-/// one.
+/// What is told of a file whose last version is in a block of a store of so many blocks. Where
+/// contents are told it is in one.
 fn head_in(chain: &Option<Chain>, blocks: u32) -> Result<Option<Head>, OpenRefused>
     ensures value { IfOk result (λ head. head ≡ option_map head_from chain.now) }
     ensures within { (head : Head) → IfOk result (λ told. told ≡ Some head → head.block < blocks) }
-    ensures fits { ((kept : Chain) → chain.now ≡ Some kept → kept.last.block < blocks) → IsOk result }
+    ensures fits { ((kept : Chain) → chain.now ≡ Some kept → kept.last.block < blocks)
+        → IsOk result }
     ensures only { IfErr result IsNoFault }
 {
     match chain {
@@ -58,9 +58,11 @@ fn head_in(chain: &Option<Chain>, blocks: u32) -> Result<Option<Head>, OpenRefus
 
 /// What is told of the file of object `i`, counted from 0.
 fn head_at(chains: &[Option<Chain>], i: usize, blocks: u32) -> Result<Option<Head>, OpenRefused>
-    ensures value { i < length chains.now → IfOk result (λ head. slice_get (heads_from chains.now) i ≡ Some head) }
+    ensures value { i < length chains.now → IfOk result
+        (λ head. slice_get (heads_from chains.now) i ≡ Some head) }
     ensures within { (head : Head) → IfOk result (λ told. told ≡ Some head → head.block < blocks) }
-    ensures fits { ((k : ℕ) (kept : Chain) → slice_get chains.now k ≡ Some (Some kept) → kept.last.block < blocks) → IsOk result }
+    ensures fits { ((k : ℕ) (kept : Chain) → slice_get chains.now k ≡ Some (Some kept)
+        → kept.last.block < blocks) → IsOk result }
     ensures only { IfErr result IsNoFault }
 {
     if i < chains.len() {
@@ -76,10 +78,14 @@ fn heads_in(
     count: usize,
     blocks: u32,
 ) -> Result<Vec<Option<Head>>, OpenRefused>
-    ensures value { count ≡ length chains.now → IfOk result (λ heads. heads.items ≡ heads_from chains.now) }
+    ensures value { count ≡ length chains.now
+        → IfOk result (λ heads. heads.items ≡ heads_from chains.now) }
     ensures even { IfOk result (λ heads. length heads.items ≡ count) }
-    ensures within { IfOk result (λ heads. (k : ℕ) (head : Head) → slice_get heads.items k ≡ Some (Some head) → head.block < blocks) }
-    ensures fits { ((k : ℕ) (kept : Chain) → slice_get chains.now k ≡ Some (Some kept) → kept.last.block < blocks) → IfErr result (λ e. e ≡ OpenRefused.Memory) }
+    ensures within { IfOk result (λ heads. (k : ℕ) (head : Head)
+        → slice_get heads.items k ≡ Some (Some head) → head.block < blocks) }
+    ensures fits { ((k : ℕ) (kept : Chain) → slice_get chains.now k ≡ Some (Some kept)
+        → kept.last.block < blocks)
+        → IfErr result (λ e. e ≡ OpenRefused.Memory) }
     ensures only { IfErr result IsNoFault }
 {
     let mut heads = Vec::new(alloc);
@@ -112,15 +118,16 @@ fn known_of(checked: Checked, heads: Vec<Option<Head>>) -> Known
 
 /// Checks which files a store holds, and tells what is kept of them. It writes nothing.
 pub fn known_store<B: Blocks>(alloc: Global, store: B) -> (B, Result<Known, OpenRefused>)
-    ensures only { OnlyRead B.tells B.size B.moment B.content B.may_leave B.settled B.settled_always B.faults B.last_fault store result.0 }
-    ensures answer { B.tells → IsMended (B.settled store) (B.content store) (B.size store)
+    ensures only { OnlyRead B.Blocks store result.0 }
+    ensures answer { IsReadable B.Blocks store
         → Knows result.1 (laid (B.content store) (B.size store) []) }
     ensures unread { (h : Half) → IsErrOf result.1 (OpenRefused.ReadFault h)
         → IsFailed (B.faults store) (B.faults result.0) (B.last_fault result.0) (B.moment result.0)
-        (B.tells → IsMended (B.settled store) (B.content store) (B.size store) → IsNoStore (B.content store) (B.size store)) h }
+        (IsReadable B.Blocks store → IsNoStore (B.content store) (B.size store)) h }
     ensures unwritten { (h : Half) → IsErrOf result.1 (OpenRefused.WriteFault h) → ⊥ }
     ensures fits { IfOk result.1 (λ known. length known.map ≤ B.size store) }
-    ensures within { IfOk result.1 (λ known. (k : ℕ) (head : Head) → slice_get known.heads.items k ≡ Some (Some head) → head.block < B.size store) }
+    ensures within { IfOk result.1 (λ known. (k : ℕ) (head : Head)
+        → slice_get known.heads.items k ≡ Some (Some head) → head.block < B.size store) }
     ensures even { IfOk result.1 (λ known. length known.heads.items ≡ length known.table.entries) }
 {
     let (store, checked) = check(alloc, store);

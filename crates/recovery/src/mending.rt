@@ -1,12 +1,14 @@
 // Mending the blocks of a store on two halves.
 ghost use Rattle.std.specs.Prelude.{◌≡◌, ℕ, ◌^◌, ◌<◌, ◌≤◌, ◌⊎◌, None, IfErr, IfOk, IsErrOf, OnOk};
 ghost use Rattle.drives.specs.declared.device.Half.{Half};
-ghost use Rattle.drives.specs.Changes.{IsAtRest};
+ghost use Rattle.drives.specs.Changes.{Changes};
+ghost use Rattle.pair_store.specs.Answers.{IsUntorn};
 ghost use Rattle.pair_store.specs.declared.fault.PairFault.{PairFault};
-ghost use Rattle.pair_store.specs.Faults.{IsStopped, IsUnread};
+ghost use Rattle.pair_store.specs.Blocks.{SameContents};
+ghost use Rattle.pair_store.specs.Faults.{IsStopped, IsUnread, LaterFaults};
 ghost use Rattle.pair_store.specs.Mending.{IsHalfFault};
 ghost use Rattle.store_check.specs.Checked.{IsMended};
-ghost use Rattle.recovery.specs.Mended.{OnlyMended, blocks_in_table, table_in};
+ghost use Rattle.recovery.specs.Mended.{IsWithin, OnlyMended, SameFrom, blocks_in_table, table_in};
 
 use afs_base::BlockNo;
 use drives::Drives;
@@ -25,20 +27,25 @@ fn block_of(n: u32) -> BlockNo
     }
 }
 
-/// Mends the blocks from `first` up to `end`, ascending. It ends at the first call that fails, with the half that failed
-/// then; the blocks behind that one stay as they are.
+/// Mends the blocks from `first` up to `end`, ascending. It ends at the first call that fails, with
+/// the half that failed then; the blocks behind that one stay as they are.
 fn mend_range<V: Drives>(pair: &mut Pair<V>, first: u32, end: u32) -> Result<(), PairFault>
     requires high { end ≤ V.size pair.old.drives }
     requires named { end ≤ 2 ^ 28 }
     ensures only { IfErr result IsHalfFault }
     ensures unread { (h : Half) → IsErrOf result (PairFault.ReadFault h)
-        → IsStopped (V.faults pair.old.drives) (V.faults pair.new.drives) (V.last_fault pair.new.drives) (V.moment pair.new.drives) h }
+        → IsStopped (V.faults pair.old.drives) (V.faults pair.new.drives)
+        (V.last_fault pair.new.drives) (V.moment pair.new.drives) h }
     ensures unwritten { (h : Half) → IsErrOf result (PairFault.WriteFault h)
-        → IsStopped (V.faults pair.old.drives) (V.faults pair.new.drives) (V.last_fault pair.new.drives) (V.moment pair.new.drives) h }
-    ensures mended { OnlyMended V.tells (λ p. V.size p.drives) ⟦<Pair<V> as Blocks>⟧.moment ⟦<Pair<V> as Blocks>⟧.content ⟦<Pair<V> as Blocks>⟧.may_leave ⟦<Pair<V> as Blocks>⟧.faults ⟦<Pair<V> as Blocks>⟧.last_fault (λ p. IsAtRest V.seen V.moment V.may_leave p.drives) pair.old pair.new }
-    ensures settles { V.tells → OnOk result ((n : ℕ) → first ≤ n → n < end → ⟦<Pair<V> as Blocks>⟧.settled pair.new n) }
-    ensures kept { V.tells → OnOk result ((n : ℕ) → ⟦<Pair<V> as Blocks>⟧.settled pair.old n → ⟦<Pair<V> as Blocks>⟧.settled pair.new n) }
-    ensures rest { V.tells → IsAtRest V.seen V.moment V.may_leave pair.old.drives → OnOk result (IsAtRest V.seen V.moment V.may_leave pair.new.drives) }
+        → IsStopped (V.faults pair.old.drives) (V.faults pair.new.drives)
+        (V.last_fault pair.new.drives) (V.moment pair.new.drives) h }
+    ensures mended { OnlyMended ⟦<Pair<V> as Blocks>⟧ (IsWithin first end) pair.old pair.new }
+    ensures settles { V.tells → OnOk result ((n : ℕ) → first ≤ n → n < end
+        → ⟦<Pair<V> as Blocks>⟧.settled pair.new n) }
+    ensures kept { V.tells → OnOk result ((n : ℕ) → ⟦<Pair<V> as Blocks>⟧.settled pair.old n
+        → ⟦<Pair<V> as Blocks>⟧.settled pair.new n) }
+    ensures rest { V.tells → ⟦<Pair<V> as Blocks>⟧.rest pair.old → IsUntorn result
+        → ⟦<Pair<V> as Blocks>⟧.rest pair.new }
     ensures uncounted { pair.new.operations ≡ pair.old.operations }
 {
     'numbers: for n in first..end {
@@ -47,19 +54,32 @@ fn mend_range<V: Drives>(pair: &mut Pair<V>, first: u32, end: u32) -> Result<(),
     Ok(())
 }
 
-/// How many blocks have to be settled: all that the table in block 0 tells of, or one where that is no table.
+/// How many blocks have to be settled: all that the table in block 0 tells of, or one where that is
+/// no table.
 fn blocks_told<V: Drives>(pair: &mut Pair<V>) -> Result<u32, PairFault>
     ensures only { IfErr result IsHalfFault }
-    ensures told { V.tells → ⟦<Pair<V> as Blocks>⟧.settled pair.old 0 → IfOk result (λ n. n ≡ blocks_in_table (table_in (⟦<Pair<V> as Blocks>⟧.content pair.old 0))) }
+    ensures told { V.tells → ⟦<Pair<V> as Blocks>⟧.settled pair.old 0
+        → IfOk result (λ n. n ≡ blocks_in_table
+        (table_in (⟦<Pair<V> as Blocks>⟧.content pair.old 0))) }
     ensures least { IfOk result (λ n. 1 ≤ n) }
     ensures most { IfOk result (λ n. n ≤ 65536) }
     ensures unread { (h : Half) → IsErrOf result (PairFault.ReadFault h)
-        → IsUnread (V.faults pair.old.drives) (V.faults pair.new.drives) (V.last_fault pair.new.drives) (V.moment pair.new.drives)
-        (V.tells → ⟦<Pair<V> as Blocks>⟧.settled pair.old 0 → ⟦<Pair<V> as Blocks>⟧.content pair.old 0 ≡ None) h }
+        → IsUnread (V.faults pair.old.drives) (V.faults pair.new.drives)
+        (V.last_fault pair.new.drives) (V.moment pair.new.drives)
+        (V.tells → ⟦<Pair<V> as Blocks>⟧.settled pair.old 0
+        → ⟦<Pair<V> as Blocks>⟧.content pair.old 0 ≡ None) h }
     ensures unwritten { (h : Half) → IsErrOf result (PairFault.WriteFault h) → ⊥ }
-    ensures mended { OnlyMended V.tells (λ p. V.size p.drives) ⟦<Pair<V> as Blocks>⟧.moment ⟦<Pair<V> as Blocks>⟧.content ⟦<Pair<V> as Blocks>⟧.may_leave ⟦<Pair<V> as Blocks>⟧.faults ⟦<Pair<V> as Blocks>⟧.last_fault (λ p. IsAtRest V.seen V.moment V.may_leave p.drives) pair.old pair.new }
-    ensures kept { V.tells → (n : ℕ) → ⟦<Pair<V> as Blocks>⟧.settled pair.old n → ⟦<Pair<V> as Blocks>⟧.settled pair.new n }
-    ensures rest { V.tells → IsAtRest V.seen V.moment V.may_leave pair.old.drives → IsAtRest V.seen V.moment V.may_leave pair.new.drives }
+    ensures same { V.tells → SameContents (⟦<Pair<V> as Blocks>⟧.content pair.old)
+        (⟦<Pair<V> as Blocks>⟧.content pair.new) }
+    ensures images { Changes ⟦<Pair<V> as Blocks>⟧.moment ⟦<Pair<V> as Blocks>⟧.may_leave
+        pair.old pair.new SameContents }
+    ensures later { LaterFaults (V.faults pair.old.drives) (V.faults pair.new.drives)
+        (V.last_fault pair.old.drives) (V.last_fault pair.new.drives) }
+    ensures size { V.size pair.new.drives ≡ V.size pair.old.drives }
+    ensures kept { V.tells → (n : ℕ) → ⟦<Pair<V> as Blocks>⟧.settled pair.old n
+        → ⟦<Pair<V> as Blocks>⟧.settled pair.new n }
+    ensures rest { V.tells → ⟦<Pair<V> as Blocks>⟧.rest pair.old
+        → ⟦<Pair<V> as Blocks>⟧.rest pair.new }
     ensures uncounted { pair.new.operations ≡ pair.old.operations }
 {
     let mut block = [0; 1024];
@@ -73,19 +93,27 @@ fn blocks_told<V: Drives>(pair: &mut Pair<V>) -> Result<u32, PairFault>
     }
 }
 
-/// Mends a store: block 0, and then the other blocks ascending, as far as the table in block 0 and the halves have any. It ends at the first
-/// call that fails. No content changes, whichever call fails and wherever a crash falls, so it may be begun anew.
+/// Mends a store: block 0, and then the other blocks ascending, as far as the table in block 0 and
+/// the halves have any. It ends at the first call that fails. No content changes, whichever call
+/// fails and wherever a crash falls, so it may be begun anew.
 pub fn mend_all<V: Drives>(pair: &mut Pair<V>) -> Result<(), PairFault>
     ensures only { IfErr result IsHalfFault }
     ensures unread { (h : Half) → IsErrOf result (PairFault.ReadFault h)
-        → IsStopped (V.faults pair.old.drives) (V.faults pair.new.drives) (V.last_fault pair.new.drives) (V.moment pair.new.drives) h
-        ⊎ IsUnread (V.faults pair.old.drives) (V.faults pair.new.drives) (V.last_fault pair.new.drives) (V.moment pair.new.drives)
+        → IsUnread (V.faults pair.old.drives) (V.faults pair.new.drives)
+        (V.last_fault pair.new.drives) (V.moment pair.new.drives)
         (V.tells → ⟦<Pair<V> as Blocks>⟧.content pair.old 0 ≡ None) h }
     ensures unwritten { (h : Half) → IsErrOf result (PairFault.WriteFault h)
-        → IsStopped (V.faults pair.old.drives) (V.faults pair.new.drives) (V.last_fault pair.new.drives) (V.moment pair.new.drives) h }
-    ensures mended { OnlyMended V.tells (λ p. V.size p.drives) ⟦<Pair<V> as Blocks>⟧.moment ⟦<Pair<V> as Blocks>⟧.content ⟦<Pair<V> as Blocks>⟧.may_leave ⟦<Pair<V> as Blocks>⟧.faults ⟦<Pair<V> as Blocks>⟧.last_fault (λ p. IsAtRest V.seen V.moment V.may_leave p.drives) pair.old pair.new }
-    ensures settles { V.tells → OnOk result (IsMended (⟦<Pair<V> as Blocks>⟧.settled pair.new) (⟦<Pair<V> as Blocks>⟧.content pair.new) (V.size pair.new.drives)) }
-    ensures rest { V.tells → IsAtRest V.seen V.moment V.may_leave pair.old.drives → OnOk result (IsAtRest V.seen V.moment V.may_leave pair.new.drives) }
+        → IsStopped (V.faults pair.old.drives) (V.faults pair.new.drives)
+        (V.last_fault pair.new.drives) (V.moment pair.new.drives) h }
+    ensures mended { OnlyMended ⟦<Pair<V> as Blocks>⟧ (IsWithin 0 65536) pair.old pair.new }
+    // No block is written from the first one on of which the table tells nothing.
+    ensures beyond { V.tells
+        → Changes ⟦<Pair<V> as Blocks>⟧.moment ⟦<Pair<V> as Blocks>⟧.may_leave pair.old pair.new
+        (SameFrom (blocks_in_table (table_in (⟦<Pair<V> as Blocks>⟧.content pair.old 0)))) }
+    ensures settles { V.tells → OnOk result (IsMended (⟦<Pair<V> as Blocks>⟧.settled pair.new)
+        (⟦<Pair<V> as Blocks>⟧.content pair.new) (V.size pair.new.drives)) }
+    ensures rest { V.tells → ⟦<Pair<V> as Blocks>⟧.rest pair.old → IsUntorn result
+        → ⟦<Pair<V> as Blocks>⟧.rest pair.new }
     ensures uncounted { pair.new.operations ≡ pair.old.operations }
 {
     mend_range(pair, 0, 1)?;

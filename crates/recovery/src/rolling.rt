@@ -1,19 +1,27 @@
 // Setting the links that a commit left outstanding, and clearing members after that.
-ghost use Rattle.std.specs.Prelude.{◌≡◌, ℕ, ◌+◌, ◌^◌, ◌<◌, ◌≤◌, List, Option, Some, None, Err, length, slice_get};
-ghost use Rattle.std.specs.Option.{option_and_then};
+ghost use Rattle.std.specs.Prelude.{◌≡◌, ℕ, ◌+◌, ◌<◌, List, Option, Some, Err, length, slice_get};
 ghost use Rattle.page_codec.specs.declared.why.Why.TheVariants.{Reference};
-ghost use Rattle.page_codec.specs.Numbers.{IsBytes};
-ghost use Rattle.store_model.specs.Found.{LaidStore};
+ghost use Rattle.pair_store.specs.Pages.{with_commit, without_members};
 ghost use Rattle.store_check.specs.declared.chain.Chain.{Chain};
-ghost use Rattle.store_check.specs.Files.{chains_of};
+ghost use Rattle.recovery.specs.declared.known.Known.{Known};
 ghost use Rattle.recovery.specs.declared.refused.OpenRefused.TheVariants.{BadStore};
-ghost use Rattle.recovery.specs.Rolling.{Never, Rolls, RollingLinks, RollingTops};
+ghost use Rattle.recovery.specs.Opening.{called};
+ghost use Rattle.recovery.specs.Rolling.{Edits, IsEdited, Rolling, Rolls};
 
+use crate::known::Known;
 use crate::refused::OpenRefused;
 use afs_base::BlockNo;
 use page_codec::Why;
-use pair_store::{Block, Blocks};
+use pair_store::{Blocks, PairFault};
 use store_check::Chain;
+
+/// What rolling forward does with each file: all links are set, and after all of them the members
+/// of each last version are cleared.
+#[derive(Clone, Copy)]
+pub enum Step {
+    SetLinks,
+    ClearMembers,
+}
 
 /// The refusal of a block of a store that is none. Where contents are told it never comes.
 fn bad_reference(block: BlockNo) -> Result<(), OpenRefused>
@@ -25,36 +33,42 @@ fn bad_reference(block: BlockNo) -> Result<(), OpenRefused>
     })
 }
 
-/// Runs nothing. Its contract says that what was read are bytes.
-fn are_bytes(bytes: &[u8])
-    ensures { IsBytes bytes.now }
-{}
+/// What a call on a block came to.
+fn came_to<T: Drop>(outcome: Result<T, PairFault>) -> Result<(), OpenRefused>
+    ensures { result ≡ called outcome }
+{
+    match outcome {
+        Ok(_done) => Ok(()),
+        Err(fault) => Err(OpenRefused::from(fault)),
+    }
+}
 
-/// Sets the commit reference of a version page where it is nil. The page is read first, so that its bytes are known.
+/// Sets the commit reference of a version page where it is nil.
 fn set_commit<B: Blocks>(store: &mut B, base: BlockNo, next: BlockNo) -> Result<(), OpenRefused>
     requires block { base < B.size store.old }
     requires named { 0 < next }
-    requires word { next < 2 ^ 28 }
-    ensures rolls { (most : ℕ) (before : LaidStore) (places : List ℕ) (k : ℕ) (chain : Chain)
-        → slice_get (chains_of before.files) k ≡ Some (Some chain) → chain.unset ≡ Some base → chain.last.block ≡ next
-        → Rolls B.tells B.size B.moment B.content B.may_leave B.settled B.settled_always B.faults B.last_fault most
-        (λ c s. RollingLinks c s most before places k) (λ c s. RollingLinks c s most before places (k + 1)) result store.old store.new }
-    ensures fails { Rolls B.tells B.size B.moment B.content B.may_leave B.settled B.settled_always B.faults B.last_fault 0 Never Never result store.old store.new }
+    ensures { Edits B.Blocks Step.SetLinks base (with_commit next) result store.old store.new }
 {
-    let mut block = [0; 1024];
-    store.read(base, &mut block)?;
-    are_bytes(&block);
-    store.test_and_set(base, next)?;
-    Ok(())
+    came_to(store.test_and_set(base, next))
 }
 
-/// Sets the link of a file that is outstanding, where both blocks are blocks of a store.
+/// Clears the members of a version page.
+fn clear_members<B: Blocks>(store: &mut B, block: BlockNo) -> Result<(), OpenRefused>
+    requires { block < B.size store.old }
+    ensures { Edits B.Blocks Step.ClearMembers block without_members result store.old store.new }
+{
+    came_to(store.clear_members(block))
+}
+
+/// Sets the link from the version in block `base` to the last one of its file, where both are
+/// blocks of a store.
 fn set_link<B: Blocks>(store: &mut B, base: BlockNo, next: BlockNo) -> Result<(), OpenRefused>
-    ensures rolls { (most : ℕ) (before : LaidStore) (places : List ℕ) (k : ℕ) (chain : Chain)
-        → most ≤ B.size store.old → slice_get (chains_of before.files) k ≡ Some (Some chain) → chain.unset ≡ Some base → chain.last.block ≡ next
-        → Rolls B.tells B.size B.moment B.content B.may_leave B.settled B.settled_always B.faults B.last_fault most
-        (λ c s. RollingLinks c s most before places k) (λ c s. RollingLinks c s most before places (k + 1)) result store.old store.new }
-    ensures fails { Rolls B.tells B.size B.moment B.content B.may_leave B.settled B.settled_always B.faults B.last_fault 0 Never Never result store.old store.new }
+    ensures { (most : ℕ) (known : Known) (k : ℕ) (chain : Chain)
+        → slice_get known.chains.items k ≡ Some (Some chain)
+        → chain.unset ≡ Some base → chain.last.block ≡ next
+        → Rolls B.Blocks most (IsEdited known) (Rolling Step.SetLinks most known k)
+        (Rolling Step.SetLinks most known (k + 1))
+        result store.old store.new }
 {
     if base.get() >= store.blocks() {
         return bad_reference(base);
@@ -65,77 +79,35 @@ fn set_link<B: Blocks>(store: &mut B, base: BlockNo, next: BlockNo) -> Result<()
     set_commit(store, base, next)
 }
 
-/// Sets the link of a file, where one is outstanding.
-fn link_file<B: Blocks>(store: &mut B, chain: &Option<Chain>) -> Result<(), OpenRefused>
-    ensures rolls { (most : ℕ) (before : LaidStore) (places : List ℕ) (k : ℕ)
-        → most ≤ B.size store.old → slice_get (chains_of before.files) k ≡ Some chain.now
-        → Rolls B.tells B.size B.moment B.content B.may_leave B.settled B.settled_always B.faults B.last_fault most
-        (λ c s. RollingLinks c s most before places k) (λ c s. RollingLinks c s most before places (k + 1)) result store.old store.new }
-    ensures fails { Rolls B.tells B.size B.moment B.content B.may_leave B.settled B.settled_always B.faults B.last_fault 0 Never Never result store.old store.new }
-{
-    match chain {
-        None => Ok(()),
-        Some(chain) => match chain.unset {
-            None => Ok(()),
-            Some(base) => set_link(store, base, chain.last.block),
-        },
-    }
-}
-
-/// Sets all links that are outstanding.
-fn set_links<B: Blocks>(store: &mut B, chains: &[Option<Chain>]) -> Result<(), OpenRefused>
-    ensures rolls { (most : ℕ) (before : LaidStore) (places : List ℕ) → most ≤ B.size store.old → chains.now ≡ chains_of before.files
-        → Rolls B.tells B.size B.moment B.content B.may_leave B.settled B.settled_always B.faults B.last_fault most
-        (λ c s. RollingLinks c s most before places 0) (λ c s. RollingLinks c s most before places (length chains.now)) result store.old store.new }
-    ensures fails { Rolls B.tells B.size B.moment B.content B.may_leave B.settled B.settled_always B.faults B.last_fault 0 Never Never result store.old store.new }
-{
-    'files: for i in 0..chains.len() {
-        link_file(store, &chains[i])?;
-    }
-    Ok(())
-}
-
-/// Clears the members of a version page. The page is read first, so that its bytes are known.
-fn clear_page<B: Blocks>(store: &mut B, block: BlockNo) -> Result<(), OpenRefused>
-    requires { block < B.size store.old }
-    ensures rolls { (most : ℕ) (before : LaidStore) (places : List ℕ) (k : ℕ) (chain : Chain)
-        → slice_get (chains_of before.files) k ≡ Some (Some chain) → chain.last.block ≡ block → (length chain.last.members ≡ 0 → ⊥)
-        → Rolls B.tells B.size B.moment B.content B.may_leave B.settled B.settled_always B.faults B.last_fault most
-        (λ c s. RollingTops c s most before places k) (λ c s. RollingTops c s most before places (k + 1)) result store.old store.new }
-    ensures fails { Rolls B.tells B.size B.moment B.content B.may_leave B.settled B.settled_always B.faults B.last_fault 0 Never Never result store.old store.new }
-{
-    let mut page = [0; 1024];
-    store.read(block, &mut page)?;
-    are_bytes(&page);
-    store.clear_members(block)?;
-    Ok(())
-}
-
-/// Clears the members of the last version of a file, where its block is one of a store.
+/// Clears the members of the last version of a file, where it is in a block of a store.
 fn clear_last<B: Blocks>(store: &mut B, block: BlockNo) -> Result<(), OpenRefused>
-    ensures rolls { (most : ℕ) (before : LaidStore) (places : List ℕ) (k : ℕ) (chain : Chain)
-        → most ≤ B.size store.old → slice_get (chains_of before.files) k ≡ Some (Some chain) → chain.last.block ≡ block → (length chain.last.members ≡ 0 → ⊥)
-        → Rolls B.tells B.size B.moment B.content B.may_leave B.settled B.settled_always B.faults B.last_fault most
-        (λ c s. RollingTops c s most before places k) (λ c s. RollingTops c s most before places (k + 1)) result store.old store.new }
-    ensures fails { Rolls B.tells B.size B.moment B.content B.may_leave B.settled B.settled_always B.faults B.last_fault 0 Never Never result store.old store.new }
+    ensures { (most : ℕ) (known : Known) (k : ℕ) (chain : Chain)
+        → slice_get known.chains.items k ≡ Some (Some chain)
+        → chain.last.block ≡ block → (length chain.last.members ≡ 0 → ⊥)
+        → Rolls B.Blocks most (IsEdited known) (Rolling Step.ClearMembers most known k)
+        (Rolling Step.ClearMembers most known (k + 1))
+        result store.old store.new }
 {
     if block.get() >= store.blocks() {
         return bad_reference(block);
     }
-    clear_page(store, block)
+    clear_members(store, block)
 }
 
-/// Clears the members of the last version of a file, where it names any.
-fn clear_file<B: Blocks>(store: &mut B, chain: &Option<Chain>) -> Result<(), OpenRefused>
-    ensures rolls { (most : ℕ) (before : LaidStore) (places : List ℕ) (k : ℕ)
-        → most ≤ B.size store.old → slice_get (chains_of before.files) k ≡ Some chain.now
-        → Rolls B.tells B.size B.moment B.content B.may_leave B.settled B.settled_always B.faults B.last_fault most
-        (λ c s. RollingTops c s most before places k) (λ c s. RollingTops c s most before places (k + 1)) result store.old store.new }
-    ensures fails { Rolls B.tells B.size B.moment B.content B.may_leave B.settled B.settled_always B.faults B.last_fault 0 Never Never result store.old store.new }
+/// Takes a step with a file that is live: sets its link where one is outstanding, or clears the
+/// members of its last version where it names any.
+fn roll_live<B: Blocks>(store: &mut B, chain: &Chain, step: Step) -> Result<(), OpenRefused>
+    ensures { (most : ℕ) (known : Known) (k : ℕ)
+        → slice_get known.chains.items k ≡ Some (Some chain.now)
+        → Rolls B.Blocks most (IsEdited known) (Rolling step most known k)
+        (Rolling step most known (k + 1)) result store.old store.new }
 {
-    match chain {
-        None => Ok(()),
-        Some(chain) => {
+    match step {
+        Step::SetLinks => match chain.unset {
+            None => Ok(()),
+            Some(base) => set_link(store, base, chain.last.block),
+        },
+        Step::ClearMembers => {
             if chain.last.members.is_empty() {
                 return Ok(());
             }
@@ -144,26 +116,38 @@ fn clear_file<B: Blocks>(store: &mut B, chain: &Option<Chain>) -> Result<(), Ope
     }
 }
 
-/// Clears the members of each last version. The links are to be set by then.
-fn clear_tops<B: Blocks>(store: &mut B, chains: &[Option<Chain>]) -> Result<(), OpenRefused>
-    ensures rolls { (most : ℕ) (before : LaidStore) (places : List ℕ) → most ≤ B.size store.old → chains.now ≡ chains_of before.files
-        → Rolls B.tells B.size B.moment B.content B.may_leave B.settled B.settled_always B.faults B.last_fault most
-        (λ c s. RollingTops c s most before places 0) (λ c s. RollingTops c s most before places (length chains.now)) result store.old store.new }
-    ensures fails { Rolls B.tells B.size B.moment B.content B.may_leave B.settled B.settled_always B.faults B.last_fault 0 Never Never result store.old store.new }
+/// Takes a step with a file.
+fn roll_file<B: Blocks>(store: &mut B, chain: &Option<Chain>, step: Step) -> Result<(), OpenRefused>
+    ensures { (most : ℕ) (known : Known) (k : ℕ) → slice_get known.chains.items k ≡ Some chain.now
+        → Rolls B.Blocks most (IsEdited known) (Rolling step most known k)
+        (Rolling step most known (k + 1)) result store.old store.new }
 {
+    match chain {
+        None => Ok(()),
+        Some(chain) => roll_live(store, chain, step),
+    }
+}
+
+/// Takes a step with all files.
+fn roll_files<B: Blocks>(store: &mut B, known: &Known, step: Step) -> Result<(), OpenRefused>
+    ensures { (most : ℕ) → Rolls B.Blocks most (IsEdited known.now) (Rolling step most known.now 0)
+        (Rolling step most known.now (length known.now.chains.items)) result store.old store.new }
+{
+    let chains = known.chains.as_slice();
     'files: for i in 0..chains.len() {
-        clear_file(store, &chains[i])?;
+        roll_file(store, &chains[i], step)?;
     }
     Ok(())
 }
 
-/// Rolls a commit forward that was cut off: sets all links that are outstanding, and then clears the members.
-pub fn roll_forward<B: Blocks>(store: &mut B, chains: &[Option<Chain>]) -> Result<(), OpenRefused>
-    ensures rolls { (most : ℕ) (before : LaidStore) (places : List ℕ) → most ≤ B.size store.old → chains.now ≡ chains_of before.files
-        → Rolls B.tells B.size B.moment B.content B.may_leave B.settled B.settled_always B.faults B.last_fault most
-        (λ c s. RollingLinks c s most before places 0) (λ c s. RollingTops c s most before places (length chains.now)) result store.old store.new }
-    ensures fails { Rolls B.tells B.size B.moment B.content B.may_leave B.settled B.settled_always B.faults B.last_fault 0 Never Never result store.old store.new }
+/// Rolls a commit forward that was cut off: sets all links that are outstanding, and then clears
+/// the members.
+pub fn roll_forward<B: Blocks>(store: &mut B, known: &Known) -> Result<(), OpenRefused>
+    ensures { (most : ℕ) → Rolls B.Blocks most (IsEdited known.now)
+        (Rolling Step.SetLinks most known.now 0)
+        (Rolling Step.ClearMembers most known.now
+        (length known.now.chains.items)) result store.old store.new }
 {
-    set_links(store, chains)?;
-    clear_tops(store, chains)
+    roll_files(store, known, Step::SetLinks)?;
+    roll_files(store, known, Step::ClearMembers)
 }

@@ -1,5 +1,5 @@
 use Rattle.std.proofs.Common.{◌≡◌, ◌⊎◌, ◌<◌, inl, inr, ℕ, ◌+◌, [], ◌∷◌, ◌++◌, Some, List, Option, length, sym, ap, ◌∙◌, arith, slice_get, option_map}
-use Rattle.version_chain.specs.declared.head.Head.{Head}
+use Rattle.afs_base.specs.declared.head.Head.{Head}
 use Rattle.store_model.proofs.Edits.{some_is, none_some, get_past, get_more}
 use Rattle.pair_store.specs.ContentLaws.{decide}
 use Rattle.recovery.specs.Known.{head_from, heads_from}

@@ -1,158 +1,78 @@
-use Rattle.std.proofs.Common.{◌≡◌, inl, inr, ℕ, ◌≤◌, [], List, Option, Result, Ok, sym, ap, subst, ◌∙◌, arith}
-use Rattle.std.proofs.Math.Path.{fun_ext}
-use Rattle.drives.proofs.Composing.{goes_on, leaves_now}
-use Rattle.store_model.specs.Found.{laid, found}
-use Rattle.store_check.specs.Checked.{IsMended}
-use Rattle.recovery.specs.declared.known.Known.{Known}
+use Rattle.std.specs.Prelude.{IfOk}
+use Rattle.afs_base.specs.declared.head.Head.{Head}
 use Rattle.recovery.specs.declared.refused.OpenRefused.{OpenRefused}
-use Rattle.recovery.specs.Opening.{IsNoStore, SameFound, store_of}
-use Rattle.recovery.specs.Known.{Knows}
-use Rattle.recovery.specs.Rolling.{Never, RollingLinks}
-use Rattle.recovery.proofs.Openings.{links_begin, opened_ok, settled_ok, bad_err, unread_err, curried}
-use Rattle.recovery.proofs.Rolls.{read_images}
-use Rattle.recovery.proofs.Writes.{more_links}
+use Rattle.std.proofs.Common.{◌≡◌, ◌<◌, ◌≤◌, ℕ, List, [], Option, Some, Result, length, slice_get, ap, subst, ◌∙◌, arith}
+use Rattle.drives.specs.Changes.{Changes}
+use Rattle.drives.proofs.Composing.{weaker}
+use Rattle.store_model.specs.Found.{laid, found}
+use Rattle.recovery.specs.Aside.{SameAside}
+use Rattle.recovery.specs.declared.known.Known.{Known}
+use Rattle.recovery.specs.declared.rolling.Step.TheVariants.{SetLinks}
+use Rattle.recovery.specs.Opening.{IsNoStore, IsReadable, IsReadableAlways, SameBeside, SameFound, store_of}
+use Rattle.recovery.specs.Rolling.{Begins, IsEdited, Rolling}
+use Rattle.recovery.proofs.Openings.{Found, aside_images, bad_err, beside, even_ok, fits_ok, found_from, found_images, left_found, opened_ok, opening_ok, settled_ok, since_ok, unread_err, unwritten_err, within_ok}
 use Rattle.recovery.proofs.opening.open_over.Goals as goal
 
-pub returns-in-Ok-clause-same : goal.returns-in-Ok-clause-same
-returns-in-Ok-clause-same g c = λ told mended.
+pub returns-in-Ok : goal.returns-in-Ok
+returns-in-Ok g c =
     let b = g.B.Blocks in
     let old = c.args.store in
     let mid = c.known_store-store.result.0 in
     let most = b.size old in
     let e = c.known_store-store.ensures in
     let known : Known = c.in-Ok.known in
-    let told_mended : IsMended (b.settled old) (b.content old) most = mended in
-    let k : Knows (Ok known) (laid (b.content old) most []) = subst (λ (r : Result Known OpenRefused). Knows r (laid (b.content old) most [])) c.in-Ok.is (e.answer told told_mended) in
-    let fits : most ≤ b.size mid = (let same = e.only.size_same in Prim.omega (arith, same)) in
-    let rolls = c.rolled.ensures.rolls most k.0 k.1 fits k.3.chains in
-    let same : b.content mid ≡ b.content old = fun_ext (e.only.same told) in
-    let begun : RollingLinks (b.content mid) (b.settled mid) most k.0 k.1 0 =
-    subst (λ (f : ℕ → Option (List ℕ)). RollingLinks f (b.settled mid) most k.0 k.1 0) (sym same)
-    (more_links most k.0 k.1 0 (b.content old) (b.settled old) (b.settled mid) (λ n s. (e.only.kept told n).1 s) (links_begin (b.content old) (b.settled old) most k.0 k.1 k.2 told_mended)) in
-    rolls.same told begun ∙ ap (λ f. found f most) same
-
-pub returns-in-Ok-clause-images : goal.returns-in-Ok-clause-images
-returns-in-Ok-clause-images g c = λ told always.
-    let b = g.B.Blocks in
-    let old = c.args.store in
-    let mid = c.known_store-store.result.0 in
-    let most = b.size old in
-    let e = c.known_store-store.ensures in
-    let known : Known = c.in-Ok.known in
-    let told_mended : IsMended (b.settled old) (b.content old) most = record { table = g.met.B.Blocks.settled_now old 0 told always.table; others = λ bytes root here reads n low in_size. g.met.B.Blocks.settled_now old n told (always.others bytes root here reads n low in_size) } in
-    let k : Knows (Ok known) (laid (b.content old) most []) = subst (λ (r : Result Known OpenRefused). Knows r (laid (b.content old) most [])) c.in-Ok.is (e.answer told told_mended) in
-    let fits : most ≤ b.size mid = (let same = e.only.size_same in Prim.omega (arith, same)) in
-    let rolls = c.rolled.ensures.rolls most k.0 k.1 fits k.3.chains in
-    let same : b.content mid ≡ b.content old = fun_ext (e.only.same told) in
-    let begun : RollingLinks (b.content mid) (b.settled mid) most k.0 k.1 0 =
-    subst (λ (f : ℕ → Option (List ℕ)). RollingLinks f (b.settled mid) most k.0 k.1 0) (sym same)
-    (more_links most k.0 k.1 0 (b.content old) (b.settled old) (b.settled mid) (λ n s. (e.only.kept told n).1 s) (links_begin (b.content old) (b.settled old) most k.0 k.1 k.2 told_mended)) in
-    let begun_always : RollingLinks (b.content mid) (b.settled_always mid) most k.0 k.1 0 =
-    subst (λ (f : ℕ → Option (List ℕ)). RollingLinks f (b.settled_always mid) most k.0 k.1 0) (sym same)
-    (more_links most k.0 k.1 0 (b.content old) (b.settled_always old) (b.settled_always mid) (λ n s. (e.only.kept_always n).1 s) (links_begin (b.content old) (b.settled_always old) most k.0 k.1 k.2 always)) in
-    let images = goes_on b.moment b.may_leave old mid (store_of c.rolled.result) (SameFound most) (SameFound most) (SameFound most) (SameFound most)
-    (read_images b.moment b.may_leave most old mid e.only.images) (leaves_now b.moment b.may_leave old mid (SameFound most) (read_images b.moment b.may_leave most old mid e.only.images))
-    (rolls.images told begun_always) (λ x y l r. r) (λ x y z l r s. s ∙ r) in
-    images
-
-pub returns-in-Ok-clause-opened : goal.returns-in-Ok-clause-opened
-returns-in-Ok-clause-opened g c = λ told mended.
-    let b = g.B.Blocks in
-    let old = c.args.store in
-    let mid = c.known_store-store.result.0 in
-    let most = b.size old in
-    let e = c.known_store-store.ensures in
-    let known : Known = c.in-Ok.known in
-    let told_mended : IsMended (b.settled old) (b.content old) most = mended in
-    let k : Knows (Ok known) (laid (b.content old) most []) = subst (λ (r : Result Known OpenRefused). Knows r (laid (b.content old) most [])) c.in-Ok.is (e.answer told told_mended) in
-    let fits : most ≤ b.size mid = (let same = e.only.size_same in Prim.omega (arith, same)) in
-    let rolls = c.rolled.ensures.rolls most k.0 k.1 fits k.3.chains in
-    let same : b.content mid ≡ b.content old = fun_ext (e.only.same told) in
-    let begun : RollingLinks (b.content mid) (b.settled mid) most k.0 k.1 0 =
-    subst (λ (f : ℕ → Option (List ℕ)). RollingLinks f (b.settled mid) most k.0 k.1 0) (sym same)
-    (more_links most k.0 k.1 0 (b.content old) (b.settled old) (b.settled mid) (λ n s. (e.only.kept told n).1 s) (links_begin (b.content old) (b.settled old) most k.0 k.1 k.2 told_mended)) in
-    opened_ok b.content b.settled most k.0 k.1 known c.rolled.result k.3 c.rolled.ensures.table c.rolled.ensures.map c.rolled.ensures.heads (rolls.goes told begun)
-
-pub returns-in-Ok-clause-bad : goal.returns-in-Ok-clause-bad
-returns-in-Ok-clause-bad g c = λ told mended.
-    let b = g.B.Blocks in
-    let old = c.args.store in
-    let mid = c.known_store-store.result.0 in
-    let most = b.size old in
-    let e = c.known_store-store.ensures in
-    let known : Known = c.in-Ok.known in
-    let told_mended : IsMended (b.settled old) (b.content old) most = mended in
-    let k : Knows (Ok known) (laid (b.content old) most []) = subst (λ (r : Result Known OpenRefused). Knows r (laid (b.content old) most [])) c.in-Ok.is (e.answer told told_mended) in
-    let fits : most ≤ b.size mid = (let same = e.only.size_same in Prim.omega (arith, same)) in
-    let rolls = c.rolled.ensures.rolls most k.0 k.1 fits k.3.chains in
-    let same : b.content mid ≡ b.content old = fun_ext (e.only.same told) in
-    let begun : RollingLinks (b.content mid) (b.settled mid) most k.0 k.1 0 =
-    subst (λ (f : ℕ → Option (List ℕ)). RollingLinks f (b.settled mid) most k.0 k.1 0) (sym same)
-    (more_links most k.0 k.1 0 (b.content old) (b.settled old) (b.settled mid) (λ n s. (e.only.kept told n).1 s) (links_begin (b.content old) (b.settled old) most k.0 k.1 k.2 told_mended)) in
-    bad_err most (b.content old) c.rolled.result (rolls.only told begun)
-
-pub returns-in-Ok-clause-settled : goal.returns-in-Ok-clause-settled
-returns-in-Ok-clause-settled g c = λ told mended.
-    let b = g.B.Blocks in
-    let old = c.args.store in
-    let mid = c.known_store-store.result.0 in
-    let most = b.size old in
-    let e = c.known_store-store.ensures in
-    let known : Known = c.in-Ok.known in
-    let told_mended : IsMended (b.settled old) (b.content old) most = mended in
-    let k : Knows (Ok known) (laid (b.content old) most []) = subst (λ (r : Result Known OpenRefused). Knows r (laid (b.content old) most [])) c.in-Ok.is (e.answer told told_mended) in
-    let fits : most ≤ b.size mid = (let same = e.only.size_same in Prim.omega (arith, same)) in
-    let rolls = c.rolled.ensures.rolls most k.0 k.1 fits k.3.chains in
-    let same : b.content mid ≡ b.content old = fun_ext (e.only.same told) in
-    let begun : RollingLinks (b.content mid) (b.settled mid) most k.0 k.1 0 =
-    subst (λ (f : ℕ → Option (List ℕ)). RollingLinks f (b.settled mid) most k.0 k.1 0) (sym same)
-    (more_links most k.0 k.1 0 (b.content old) (b.settled old) (b.settled mid) (λ n s. (e.only.kept told n).1 s) (links_begin (b.content old) (b.settled old) most k.0 k.1 k.2 told_mended)) in
-    settled_ok b.content b.settled most k.0 k.1 known c.rolled.result k.3 c.rolled.ensures.map (rolls.goes told begun)
-
-pub returns-in-Ok-clause-settled_always : goal.returns-in-Ok-clause-settled_always
-returns-in-Ok-clause-settled_always g c = λ told always.
-    let b = g.B.Blocks in
-    let old = c.args.store in
-    let mid = c.known_store-store.result.0 in
-    let most = b.size old in
-    let e = c.known_store-store.ensures in
-    let known : Known = c.in-Ok.known in
-    let told_mended : IsMended (b.settled old) (b.content old) most = record { table = g.met.B.Blocks.settled_now old 0 told always.table; others = λ bytes root here reads n low in_size. g.met.B.Blocks.settled_now old n told (always.others bytes root here reads n low in_size) } in
-    let k : Knows (Ok known) (laid (b.content old) most []) = subst (λ (r : Result Known OpenRefused). Knows r (laid (b.content old) most [])) c.in-Ok.is (e.answer told told_mended) in
-    let fits : most ≤ b.size mid = (let same = e.only.size_same in Prim.omega (arith, same)) in
-    let rolls = c.rolled.ensures.rolls most k.0 k.1 fits k.3.chains in
-    let same : b.content mid ≡ b.content old = fun_ext (e.only.same told) in
-    let begun : RollingLinks (b.content mid) (b.settled mid) most k.0 k.1 0 =
-    subst (λ (f : ℕ → Option (List ℕ)). RollingLinks f (b.settled mid) most k.0 k.1 0) (sym same)
-    (more_links most k.0 k.1 0 (b.content old) (b.settled old) (b.settled mid) (λ n s. (e.only.kept told n).1 s) (links_begin (b.content old) (b.settled old) most k.0 k.1 k.2 told_mended)) in
-    let begun_always : RollingLinks (b.content mid) (b.settled_always mid) most k.0 k.1 0 =
-    subst (λ (f : ℕ → Option (List ℕ)). RollingLinks f (b.settled_always mid) most k.0 k.1 0) (sym same)
-    (more_links most k.0 k.1 0 (b.content old) (b.settled_always old) (b.settled_always mid) (λ n s. (e.only.kept_always n).1 s) (links_begin (b.content old) (b.settled_always old) most k.0 k.1 k.2 always)) in
-    settled_ok b.content b.settled_always most k.0 k.1 known c.rolled.result k.3 c.rolled.ensures.map (rolls.goes_always told begun_always)
-
-pub returns-in-Ok-clause-unread : goal.returns-in-Ok-clause-unread
-returns-in-Ok-clause-unread g c = λ h.
-    let b = g.B.Blocks in
-    let old = c.args.store in
-    let mid = c.known_store-store.result.0 in
     let r = c.rolled.result in
-    curried b.tells (IsMended (b.settled old) (b.content old) (b.size old)) (IsNoStore (b.content old) (b.size old)) (b.faults old) b.faults b.last_fault b.moment r h
-    (unread_err (b.faults old) (b.faults mid) b.faults b.last_fault b.moment (b.tells → Never (b.content mid) (b.settled mid) → ⊥) (b.tells × IsMended (b.settled old) (b.content old) (b.size old)) (IsNoStore (b.content old) (b.size old)) r h
-    (c.known_store-store.ensures.only.later h).0
-    (λ is. c.rolled.ensures.fails.unread h is)
-    (λ m is.
-    let told = m.0 in
-    let mended = m.1 in
-    let most = b.size old in
-    let e = c.known_store-store.ensures in
-    let known : Known = c.in-Ok.known in
-    let told_mended : IsMended (b.settled old) (b.content old) most = mended in
-    let k : Knows (Ok known) (laid (b.content old) most []) = subst (λ (r : Result Known OpenRefused). Knows r (laid (b.content old) most [])) c.in-Ok.is (e.answer told told_mended) in
-    let fits : most ≤ b.size mid = (let same = e.only.size_same in Prim.omega (arith, same)) in
-    let rolls = c.rolled.ensures.rolls most k.0 k.1 fits k.3.chains in
-    let same : b.content mid ≡ b.content old = fun_ext (e.only.same told) in
-    let begun : RollingLinks (b.content mid) (b.settled mid) most k.0 k.1 0 =
-    subst (λ (f : ℕ → Option (List ℕ)). RollingLinks f (b.settled mid) most k.0 k.1 0) (sym same)
-    (more_links most k.0 k.1 0 (b.content old) (b.settled old) (b.settled mid) (λ n s. (e.only.kept told n).1 s) (links_begin (b.content old) (b.settled old) most k.0 k.1 k.2 told_mended)) in
-    let f = rolls.unread h is in
-    record { failed = f.failed; last = elim f.last [ inl at ↦ inl at | inr (stood, none) ↦ absurd (none told begun) ] }))
+    let t = c.rolled.ensures.told in
+    let rolls = c.rolled.ensures.rolls most in
+    let outcome = laid (b.content old) most [] in
+    let at : IsReadable b old → Found b b.settled old mid known = λ readable.
+    found_from b b.settled old mid known (e.only.same readable.0) (λ n. (e.only.kept readable.0 n).1) e.only.size_same readable.1 c.in-Ok.is (e.answer readable) in
+    let now : IsReadableAlways b old → IsReadable b old = λ always. (
+      always.0,
+      record {
+        table = g.met.B.Blocks.settled_now old 0 always.0 always.1.table;
+        others = λ bytes root here reads n low in_size. g.met.B.Blocks.settled_now old n always.0 (always.1.others bytes root here reads n low in_size);
+      },
+    ) in
+    let at_always : IsReadableAlways b old → Found b b.settled_always old mid known = λ always.
+    found_from b b.settled_always old mid known (e.only.same always.0) (λ n. (e.only.kept_always n).1) e.only.size_same always.1 c.in-Ok.is (e.answer (now always)) in
+    let same : IsReadable b old → SameFound most (b.content old) (b.content (store_of r)) = λ readable.
+    (let a = at readable in rolls.same (readable.0, a.room, a.begins) ∙ ap (λ f. found f most) a.same) in
+    let images : IsReadableAlways b old → Changes b.moment b.may_leave old (store_of r) (SameFound most) = λ always.
+    (let a = at_always always in found_images b most old mid (store_of r) e.only.images (rolls.images (always.0, a.room, a.begins))) in
+    let size : b.size (store_of r) ≡ most = rolls.leaves.size_same ∙ e.only.size_same in
+    let since = since_ok c.now-since.result (b.moment old) r c.rolled.ensures.since c.now-since.ensures in
+    let opened = λ (readable : IsReadable b old). (let a = at readable in opened_ok b most known b.settled r t (rolls.goes (readable.0, a.room, a.begins))) in
+    let settled = λ (readable : IsReadable b old). (let a = at readable in settled_ok b most known b.settled r t (rolls.goes (readable.0, a.room, a.begins))) in
+    let settled_always = λ (always : IsReadableAlways b old). (let a = at_always always in settled_ok b most known b.settled_always r t (rolls.goes_always (always.0, a.room, a.begins))) in
+    record {
+      same = same;
+      images = images;
+      others = λ readable.
+          let a = at readable in
+          beside b b.settled old mid known a (b.content old) (b.content (store_of r))
+          (subst (λ (f : ℕ → Option (List ℕ)). SameAside (IsEdited known) f (b.content (store_of r))) a.same (rolls.leaves.others readable.0));
+      images_others = λ readable.
+          weaker b.moment b.may_leave old (store_of r) (SameAside (IsEdited known)) (SameBeside outcome)
+          (aside_images b most old mid (IsEdited known) (store_of r) e.only.images rolls.leaves.images_others)
+          (λ f h left aside. beside b b.settled old mid known (at readable) f h aside);
+      opened = opened;
+      opening = λ always.
+          opening_ok b old r size since (opened (now always)) (settled (now always)) (settled_always always) (same (now always)) (images always)
+          (λ f may. left_found b old mid known (at_always always) always.1 (λ n x s left. g.met.B.Blocks.settled_left old n x always.0 s left) f may);
+      bad = λ readable. let a = at readable in bad_err (found (b.content old) most) r (rolls.only (readable.0, a.room, a.begins));
+      unread = λ h.
+          unread_err b old mid (Begins b most (Rolling SetLinks most known 0) mid) (IsReadable b old) (IsNoStore (b.content old) most) r h (e.only.later h).0
+          (λ none readable. let a = at readable in absurd (none (readable.0, a.room, a.begins))) (rolls.unread h);
+      unwritten = λ h. unwritten_err b old mid r h (e.only.later h).0 (rolls.leaves.unwritten h);
+      settled = settled;
+      settled_always = settled_always;
+      rest = λ told rest unwritten. rolls.leaves.rest told (e.only.rest told rest) unwritten;
+      fits = fits_ok known most r t (subst (λ (q : Result Known OpenRefused). IfOk q (λ k. length k.map ≤ most)) c.in-Ok.is e.fits);
+      within = within_ok known most r t
+          (subst (λ (q : Result Known OpenRefused). IfOk q (λ k. (i : ℕ) (head : Head) → slice_get k.heads.items i ≡ Some (Some head) → head.block < most)) c.in-Ok.is e.within);
+      even = even_ok known most r t (subst (λ (q : Result Known OpenRefused). IfOk q (λ k. length k.heads.items ≡ length k.table.entries)) c.in-Ok.is e.even);
+      since = since;
+      later = λ h. let p = e.only.later h in let q = rolls.leaves.later h in (Prim.omega (arith, p, q), Prim.omega (arith, p, q));
+      size = size;
+    }
