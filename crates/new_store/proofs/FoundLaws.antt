@@ -26,7 +26,7 @@ use Rattle.store_model.proofs.NewBytes.{new_store_read, version_lawful}
 use Rattle.store_model.proofs.NewFiles.{closed_is_refused, found_files, laid_file, new_store_is_found, no_tops}
 use Rattle.new_store.specs.declared.store.NewStore.{NewStore}
 use Rattle.new_store.specs.Formatting.{IsFormatting}
-use Rattle.new_store.specs.Fresh.{StandsFor, new_files, new_state}
+use Rattle.new_store.specs.Fresh.{OldNoneOrNew, new_files, new_state}
 use Rattle.new_store.specs.Layout.{HasNewStore, new_block, part_blocks}
 use Rattle.new_store.specs.Sizes.{used_blocks}
 use Rattle.new_store.proofs.NewBlocks.{block_page, part_blocks-is, table_one, table_read, table_two}
@@ -93,7 +93,7 @@ new_store_found s c most room has = of (nat_le s.files 60) refl
 same_found : (f g : Content) (most : ℕ) → SameContents f g → found g most ≡ found f most
 same_found f g most same = ap (λ (c : Content). found c most) (fun_ext same)
 
-pub formatting_stands : (s : NewStore) (most : ℕ) (f g : Content) → s.blocks ≤ most → IsFormatting s f g → StandsFor s most f g
+pub formatting_stands : (s : NewStore) (most : ℕ) (f g : Content) → s.blocks ≤ most → IsFormatting s f g → OldNoneOrNew s most f g
 formatting_stands s most f g room r =
     elim r.stage [
       | inl same ↦ inl (same_found f g most same)
@@ -103,5 +103,5 @@ formatting_stands s most f g room r =
       ]
     ]
 
-pub formatting_found : {D : Type 0} (moment : D → ℕ) (left : D → ℕ → Content → Type 0) (s : NewStore) (most : ℕ) (old new : D) → s.blocks ≤ most → Changes moment left old new (IsFormatting s) → Changes moment left old new (StandsFor s most)
-formatting_found moment left s most old new room changes = weaker moment left old new (IsFormatting s) (StandsFor s most) changes (λ f g _ r. formatting_stands s most f g room r)
+pub formatting_found : {D : Type 0} (moment : D → ℕ) (left : D → ℕ → Content → Type 0) (s : NewStore) (most : ℕ) (old new : D) → s.blocks ≤ most → Changes moment left old new (IsFormatting s) → Changes moment left old new (OldNoneOrNew s most)
+formatting_found moment left s most old new room changes = weaker moment left old new (IsFormatting s) (OldNoneOrNew s most) changes (λ f g _ r. formatting_stands s most f g room r)

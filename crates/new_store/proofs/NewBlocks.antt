@@ -1,7 +1,7 @@
 -- What the blocks of a new store are, number by number, and that they are read as what they spell.
-use Rattle.std.proofs.Common.{◌≡◌, ℕ, zero, suc, ◌+◌, ◌-◌, ◌*◌, ◌/◌, ◌<◌, ◌≤◌, Bool, true, false, cond, nat_eq, nat_le, List, ◌∷◌, map, length, Some, Ok, refl, ap, ◌∙◌, arith}
+use Rattle.std.proofs.Common.{◌≡◌, ℕ, zero, suc, ◌+◌, ◌-◌, ◌*◌, ◌/◌, ◌<◌, ◌≤◌, Bool, true, false, cond, nat_eq, nat_le, List, ◌∷◌, map, length, Some, Ok, refl, ap, ◌∙◌, inl, inr, arith}
 use Rattle.std.specs.List.{range_with_len, list_any}
-use Rattle.std.proofs.lemmas.Bool.{le-leb}
+use Rattle.std.proofs.lemmas.Bool.{cases_lt, le-leb}
 use Rattle.page_codec.specs.Values.{EntryValue, RootValue}
 use Rattle.page_codec.specs.Blank.{no_entry, no_entries}
 use Rattle.page_codec.specs.Bounds.{IsPart, IsRoot, has_generation}
@@ -16,7 +16,7 @@ use Rattle.page_codec.proofs.RootLaws.{root_of-root_bytes}
 use Rattle.store_model.proofs.NewBytes.{entries_count, entries_lawful}
 use Rattle.new_store.specs.declared.store.NewStore.{NewStore}
 use Rattle.new_store.specs.Layout.{new_block, part_block, part_blocks, part_of_new, table_of}
-use Rattle.new_store.specs.Sizes.{part_count}
+use Rattle.new_store.specs.Sizes.{part_count, used_blocks}
 use Rattle.new_store.proofs.PartBlocks.{IsPartBelow-part_blocks}
 
 pub block_table : (s : NewStore) → new_block s 0 ≡ root_bytes (table_of s)
@@ -56,6 +56,14 @@ length-part_of_new s j = entries_count s.files s.key (63 * j + 1) 63
 used : (s : NewStore) (object n : ℕ) → object ≤ s.files → list_any has_generation (map (new_entry s.files s.key) (range_with_len object (suc n))) ≡ true
 used s object n small =
     ap (λ (t : Bool). list_any has_generation (cond t (let e : EntryValue = record { first = Some object; generation = 1; secret = secret_of s.key object 1 } in e) no_entry ∷ map (new_entry s.files s.key) (range_with_len (object + 1) n))) (le-leb object s.files small)
+
+-- a block in use behind the version pages is a part of which a file is there
+pub part_is_used : (files n : ℕ) → files < n → n < used_blocks files → 63 * (n - (files + 1)) + 1 ≤ files
+part_is_used files n past inside =
+    elim (cases_lt 60 files) [
+      | inl many ↦ omega (arith, part_count_two files many)
+      | inr few ↦ let none : part_count files ≡ 0 = ap (λ (t : Bool). cond t 0 ((files + 62) / 63)) (le-leb files 60 few) in absurd (omega (arith, none))
+    ]
 
 -- a part of which a file is there has a spelling
 pub part_lawful : (s : NewStore) (j : ℕ) → 63 * j + 1 ≤ s.files → IsPart (part_of_new s j)

@@ -18,7 +18,8 @@ IsOuter files k = (k ≡ 0) ⊎ (used_blocks files ≤ k)
 abbrev pub IsFilling : ℕ → (ℕ → Option (List ℕ)) → (ℕ → Option (List ℕ)) → Type 0
 IsFilling files f g = (k : ℕ) → IsOuter files k → g k ≡ f k
 
--- the blocks from block 1 up to one hold what they hold in a new store, by reads and after every crash, and are settled
+-- the blocks from block 1 up to one hold what they hold in a new store, by reads and after every
+-- crash, and are settled
 pub record AreWritten (s : NewStore) (end : ℕ) (content : ℕ → Option (List ℕ)) (settled settled_always : ℕ → Type 0) (left : (ℕ → Option (List ℕ)) → Type 0) : Type 0 where
   pub contents : (n : ℕ) → 0 < n → n < end → content n ≡ Some (new_block s n)
   pub settled_each : (n : ℕ) → 0 < n → n < end → settled n
@@ -30,8 +31,8 @@ pub record IsFilled (s : NewStore) (f g : ℕ → Option (List ℕ)) : Type 0 wh
   pub beyond : SameBeyond s.files f g
   pub table : (g 0 ≡ f 0) ⊎ HasNewStore s g
 
--- A store is formatted: all blocks are as they were, or block 0 is closed, or it is the new store. So nothing else changes before block 0
--- is closed, and the table comes last.
+-- A store is formatted: all blocks are as they were, or block 0 is closed, or it is the new store.
+-- So nothing else changes before block 0 is closed, and the table comes last.
 pub record IsFormatting (s : NewStore) (f g : ℕ → Option (List ℕ)) : Type 0 where
   pub beyond : SameBeyond s.files f g
   pub stage : SameContents f g ⊎ ((g 0 ≡ None) ⊎ HasNewStore s g)

@@ -23,6 +23,6 @@ new_state s =
     }
 
 -- contents stand for the files of others, or for none since block 0 is closed, or for the new store
-abbrev pub StandsFor : NewStore → ℕ → (ℕ → Option (List ℕ)) → (ℕ → Option (List ℕ)) → Type 0
-StandsFor s most f g =
+abbrev pub OldNoneOrNew : NewStore → ℕ → (ℕ → Option (List ℕ)) → (ℕ → Option (List ℕ)) → Type 0
+OldNoneOrNew s most f g =
     (found g most ≡ found f most) ⊎ ((found g most ≡ Err (record { block = 0; why = Closed })) ⊎ (found g most ≡ Ok (new_state s)))

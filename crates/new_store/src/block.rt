@@ -5,7 +5,7 @@ ghost use Rattle.new_store.specs.Sizes.{used_blocks};
 
 use crate::store::NewStore;
 use crate::table::{part_entries, table_of};
-use page_codec::{Block, encode_root, encode_version, new_version, put_part};
+use page_codec::{Block, encode_entries, encode_root, encode_version, new_version};
 
 /// Writes what a block of the new store holds into all of the buffer.
 #[tactic(auto, unfolding(crate::specs::Layout::new_block))]
@@ -20,6 +20,6 @@ pub fn encode_block(store: &NewStore, n: u32, into: &mut Block)
         encode_version(&new_version(n), into);
     } else {
         let j = n - (store.files + 1);
-        put_part(into, j as u8, &part_entries(store, j));
+        encode_entries(j as u8, &part_entries(store, j), into);
     }
 }

@@ -2,20 +2,17 @@
 ghost use Rattle.std.specs.Prelude.{◌≡◌, ℕ, ◌+◌, ◌^◌, ◌<◌, ◌≤◌, MatchOption};
 ghost use Rattle.new_store.specs.Sizes.{IsInRange, part_count, used_blocks};
 
+use afs_base::{MAX_BLOCKS, MAX_OBJECTS, PART_ENTRIES, ROOT_ENTRIES};
+
 /// How many files have their entries in block 0; a store of more has a table of several blocks.
-pub const ROOT_FILES: u32 = 60;
+pub const ROOT_FILES: u32 = ROOT_ENTRIES as u32;
 
-/// How many files have their entries in one part of a table.
-pub const PART_FILES: u32 = 63;
+// How many files have their entries in one part of a table.
+const PART_FILES: u32 = PART_ENTRIES as u32;
 
-/// How many files a store may have.
-pub const MOST_FILES: u32 = 4032;
-
-/// How many blocks a store may have.
-pub const MOST_BLOCKS: u32 = 65536;
-
-/// What a new store is made of: the key of its capabilities; the number of its files, 1 to 4,032; and the number of its
-/// blocks, at most 65,536, of which the table and one page for each file have to find room.
+/// What a new store is made of: the key of its capabilities; the number of its files, 1 to 4,032;
+/// and the number of its blocks, at most 65,536, of which the table and one page for each file have
+/// to find room.
 #[derive(Clone, Copy, Debug)]
 pub struct NewStore {
     pub key: u64,
@@ -41,13 +38,14 @@ fn part_count(files: u32) -> u32
 }
 
 impl NewStore {
-    /// A new store of this key, of so many files, 1 to 4,032, and so many blocks, at most 65,536. It is none where the
-    /// numbers are out of range, or the blocks too few: one for the table, one for each file, and where there are more
-    /// than 60 files, one for each 63 of them.
+    /// A new store of this key, of so many files, 1 to 4,032, and so many blocks, at most 65,536.
+    /// It is none where the numbers are out of range, or the blocks too few: one for the table, one
+    /// for each file, and where there are more than 60 files, one for each 63 of them.
     pub fn of(key: u64, files: u32, blocks: u32) -> Option<NewStore>
-        ensures { MatchOption result (IsInRange files blocks → ⊥) (λ s. (s.key ≡ key) × (s.files ≡ files) × (s.blocks ≡ blocks)) }
+        ensures { MatchOption result (IsInRange files blocks → ⊥) (λ s. (s.key ≡ key)
+            × (s.files ≡ files) × (s.blocks ≡ blocks)) }
     {
-        if files < 1 || files > MOST_FILES || blocks > MOST_BLOCKS {
+        if files < 1 || files > MAX_OBJECTS || blocks > MAX_BLOCKS {
             return None;
         }
         if 1 + files + part_count(files) > blocks {
@@ -63,7 +61,8 @@ impl NewStore {
         part_count(self.files)
     }
 
-    /// How many blocks are in use: the table, a version page for each file, and the parts of the table.
+    /// How many blocks are in use: the table, a version page for each file, and the parts of the
+    /// table.
     pub fn used_blocks(&self) -> u32
         ensures { result ≡ used_blocks self.now.files }
     {

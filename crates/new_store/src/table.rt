@@ -10,24 +10,13 @@ use crate::store::{NewStore, ROOT_FILES};
 use afs_base::BlockNo;
 use page_codec::{PART_ENTRIES, TableEntry, TableRoot, new_root, secret_of};
 
-/// The block of this number, which is below 2^28.
-pub fn block_no(n: u32) -> BlockNo
-    requires { n < 268435456 }
-    ensures { result ≡ n }
-{
-    match BlockNo::of(n) {
-        Ok(block) => block,
-        Err(_) => unreachable!(),
-    }
-}
-
 /// The entry of an object, counted from 1: file i has its first version in block i.
 fn new_entry(store: &NewStore, object: u32) -> TableEntry
     requires { 1 ≤ object }
     ensures { result ≡ new_entry store.now.files store.now.key object }
 {
     if object <= store.files {
-        TableEntry::live(block_no(object), 1, secret_of(store.key, object, 1))
+        TableEntry::live(BlockNo::at(object), 1, secret_of(store.key, object, 1))
     } else {
         TableEntry::none()
     }
@@ -38,7 +27,8 @@ fn fill_entries(entries: &mut [TableEntry], store: &NewStore, object: u32)
     requires one { 1 ≤ object }
     requires low { object ≤ 4032 }
     requires few { length entries.old ≤ 63 }
-    ensures { entries.new ≡ map (new_entry store.now.files store.now.key) (range_with_len object (length entries.old)) }
+    ensures { entries.new ≡ map (new_entry store.now.files store.now.key)
+        (range_with_len object (length entries.old)) }
 {
     for i in 0..entries.len() {
         entries[i] = new_entry(store, object + i as u32);
@@ -62,7 +52,7 @@ fn part_block(store: &NewStore, j: u32) -> Option<BlockNo>
     ensures { result ≡ part_block store.now.files j }
 {
     if j < store.parts() {
-        Some(block_no(store.files + 1 + j))
+        Some(BlockNo::at(store.files + 1 + j))
     } else {
         None
     }

@@ -27,7 +27,7 @@ returns-in_err-write-clause-images g c =
     let n = c.loop-n.n in
     let some : 0 < n = omega arith in
     let low : n < used_blocks c.args.store.now.files = subst (λ (m : ℕ). n < m) c.used_blocks-n-end.ensures c.loop-n-test.true in
-    let others = subst (λ (m : ℕ). Changes now left c.loop-n.blocks c.write.new.self (SameOthers m)) c.block_no.ensures c.write.ensures.images_others in
+    let others = subst (λ (m : ℕ). Changes now left c.loop-n.blocks c.write.new.self (SameOthers m)) c.at.ensures c.write.ensures.images_others in
     filling_more now left c.args.store.now n c.args.blocks.now c.loop-n.blocks c.write.new.self some low c.loop-n.invariant.images others
 
 pub loop-n-preserved : goal.loop-n-preserved
@@ -42,7 +42,7 @@ loop-n-preserved g c =
     let some : 0 < n = omega arith in
     let low : n < used_blocks s.files = subst (λ (m : ℕ). n < m) c.used_blocks-n-end.ensures c.loop-n-test.true in
     let ne = outer_other s.files n in
-    let same = c.block_no.ensures in
+    let same = c.at.ensures in
     let others = subst (λ (m : ℕ). Changes now left mid new (SameOthers m)) same c.write.ensures.images_others in
     record {
       written = λ tells. written_more now left s (λ b. content b) (λ b. g.B.Blocks.settled b) (λ b. g.B.Blocks.settled_always b) mid new n (c.loop-n.invariant.written tells)
