@@ -3,3 +3,9 @@ pub mod SlotLemmas
 pub mod Prepending
 pub mod LineLemmas
 pub mod SoundLemmas
+pub mod NumberWords
+pub mod HexWords
+pub mod PathWords
+pub mod SaysLemmas
+pub mod FormLemmas
+pub mod Examples

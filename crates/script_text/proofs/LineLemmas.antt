@@ -1,7 +1,8 @@
 -- Reading the lines of a text one by one.
-use Rattle.std.proofs.Common.{◌≡◌, ℕ, ◌+◌, ◌<◌, ◌≤◌, Bool, true, false, eqb, List, [], ◌∷◌, ◌++◌, length, drop, get_or, Option, Some, None, refl, sym, ◌∙◌, ap, arith, append_assoc, length-drop}
+use Rattle.std.proofs.Common.{◌≡◌, ℕ, ◌+◌, ◌-◌, ◌<◌, ◌≤◌, Bool, true, false, eqb, List, [], ◌∷◌, ◌++◌, length, drop, get_or, Option, Some, None, refl, sym, ◌∙◌, ap, arith, append_assoc, length-append, length-drop}
 use Rattle.std.specs.Option.{option_to_list}
-use Rattle.std.specs.List.{filter_map, cons_option, slice_get}
+use Rattle.std.specs.List.{filter_map, cons_option, join_with_byte, slice_get}
+use Rattle.std.proofs.lemmas.List.Splits.{join_with_byte-slice_split}
 use Rattle.std.proofs.lemmas.List.{append-nil, at_drop_all, at_drop_more}
 use Rattle.std.proofs.lemmas.Bool.{cond-false, cond-true, ne_eqb, eq-eqb, eqb-true, eqb-false}
 use Rattle.script_text.specs.declared.refused.LineWhy.{LineWhy}
@@ -9,6 +10,7 @@ use Rattle.script_text.specs.declared.refused.ScriptRefused.{ScriptRefused}
 use Rattle.script_text.specs.declared.refused.ScriptRefused.TheVariants.{BadLine, Memory}
 use Rattle.script_text.specs.declared.script.Mode.{Mode}
 use Rattle.script_text.specs.declared.script.Line.{Line}
+use Rattle.script_text.specs.Words.{pieces}
 use Rattle.script_text.specs.Grammar.{RawLine, raw_line, raw_lines, line_end, bad_of, good_of, IsRefusal}
 
 -- the bad lines and the good lines of raw lines
@@ -138,15 +140,63 @@ ReadsLines-end mode ps i start lines r end =
     all_read mode ps i start lines r (at_drop_all (raw_lines (i + 1) start) ps i end)
 
 -- one raw line said in two ways
-pub raw_same : (n end end' : ℕ) (text text' : List ℕ) → end ≡ end' → text ≡ text'
+pub raw_same : (n n' end end' : ℕ) (text text' : List ℕ) → n ≡ n' → end ≡ end' → text ≡ text'
     → let a : RawLine = record { number = n; end = end; text = text } in
-    let b : RawLine = record { number = n; end = end'; text = text' } in a ≡ b
-raw_same n end end' text text' e t =
-    ap (λ (x : ℕ). let r : RawLine = record { number = n; end = x; text = text } in r) e
-    ∙ ap (λ (x : List ℕ). let r : RawLine = record { number = n; end = end'; text = x } in r) t
+    let b : RawLine = record { number = n'; end = end'; text = text' } in a ≡ b
+raw_same n n' end end' text text' m e t =
+    ap (λ (x : ℕ). let r : RawLine = record { number = x; end = end; text = text } in r) m
+    ∙ ap (λ (x : ℕ). let r : RawLine = record { number = n'; end = x; text = text } in r) e
+    ∙ ap (λ (x : List ℕ). let r : RawLine = record { number = n'; end = end'; text = x } in r) t
 
 -- a refusal of one raw line is one of the same
 pub refusal_same : (mode : Mode) (e : ScriptRefused) (a b : RawLine) → a ≡ b
     → IsRefusal e (option_to_list (bad_of mode a)) → IsRefusal e (option_to_list (bad_of mode b))
 refusal_same mode Memory a b same h = tt
 refusal_same mode (BadLine line why) a b same h = ap (λ r. slice_get (option_to_list (bad_of mode r)) 0) (sym same) ∙ h
+
+-- ---- where pieces stand in their text
+
+-- the pieces from place i on begin at this place of the text
+pub record StandsAt (bytes : List ℕ) (ps : List (List ℕ)) (i start : ℕ) : Type 0 where
+  pub rest : i < length ps → start + length (join_with_byte 10 (drop i ps)) ≡ length bytes
+
+pub StandsAt-start : (bytes : List ℕ) → StandsAt bytes (pieces bytes) 0 0
+StandsAt-start bytes = record { rest = λ h. omega (arith, ap (λ xs. length xs) (join_with_byte-slice_split 10 bytes)) }
+
+-- the bytes of a piece and of the rest
+both_parts : (piece : List ℕ) (rest : List (List ℕ)) → 0 < length rest
+    → length (join_with_byte 10 (piece ∷ rest)) ≡ length piece + 1 + length (join_with_byte 10 rest)
+both_parts piece [] some = absurd (omega arith)
+both_parts piece (q ∷ qs) some = length-append piece (10 ∷ join_with_byte 10 (q ∷ qs)) ∙ omega arith
+
+-- the place after a piece
+piece_end : (bytes : List ℕ) (ps : List (List ℕ)) (i start : ℕ) (piece : List ℕ) → StandsAt bytes ps i start → i < length ps
+    → piece ≡ get_or ps i [] → start + length (join_with_byte 10 (piece ∷ drop (i + 1) ps)) ≡ length bytes
+piece_end bytes ps i start piece s h is =
+    ap (λ p. start + length (join_with_byte 10 (p ∷ drop (i + 1) ps))) is
+    ∙ sym (at_drop_more (λ xs. start + length (join_with_byte 10 xs)) ps i [] h)
+    ∙ s.rest h
+
+-- a piece ends where the text does exactly where it is the last
+pub last_piece : (bytes : List ℕ) (ps : List (List ℕ)) (i start : ℕ) (piece : List ℕ) → StandsAt bytes ps i start → i < length ps
+    → piece ≡ get_or ps i [] → eqb (start + length piece) (length bytes) ≡ eqb (i + 1) (length ps)
+last_piece bytes ps i start piece s h is = by (drop (i + 1) ps) (length-drop (i + 1) ps) (piece_end bytes ps i start piece s h is)
+  where
+    by : (rest : List (List ℕ)) → length rest ≡ length ps - (i + 1) → start + length (join_with_byte 10 (piece ∷ rest)) ≡ length bytes
+        → eqb (start + length piece) (length bytes) ≡ eqb (i + 1) (length ps)
+    by [] count at =
+        eq-eqb (start + length piece) (length bytes) at ∙ sym (eq-eqb (i + 1) (length ps) (omega arith))
+    by (q ∷ qs) count at =
+        let more = both_parts piece (q ∷ qs) (omega arith) in
+        ne_eqb (start + length piece) (length bytes) (λ e. omega (arith, more))
+        ∙ sym (ne_eqb (i + 1) (length ps) (λ e. omega arith))
+
+pub StandsAt-more : (bytes : List ℕ) (ps : List (List ℕ)) (i start : ℕ) (piece : List ℕ) (last : Bool) → StandsAt bytes ps i start
+    → i < length ps → piece ≡ get_or ps i [] → last ≡ eqb (i + 1) (length ps) → StandsAt bytes ps (i + 1) (line_end start last piece)
+StandsAt-more bytes ps i start piece last s h is end = record {
+  rest = λ more.
+      let not_last : last ≡ false = end ∙ ne_eqb (i + 1) (length ps) (λ e. omega arith) in
+      let parts = both_parts piece (drop (i + 1) ps) (omega (arith, length-drop (i + 1) ps)) in
+      let at = piece_end bytes ps i start piece s h is in
+      ap (λ b. line_end start b piece + length (join_with_byte 10 (drop (i + 1) ps))) not_last ∙ omega (arith, parts);
+}

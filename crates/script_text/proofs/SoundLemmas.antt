@@ -1,8 +1,8 @@
 -- What is read keeps what the type of scripts keeps.
-use Rattle.std.proofs.Common.{◌≡◌, ℕ, zero, suc, ◌+◌, ◌<◌, ◌≤◌, Bool, true, false, cond, ◌&&◌, leb, ltb, eqb, List, [], ◌∷◌, length, get_or, Option, Some, None, Result, Ok, Err, refl, sym, ◌∙◌, ap, subst, arith}
+use Rattle.std.proofs.Common.{◌≡◌, ℕ, zero, suc, ◌+◌, ◌<◌, ◌≤◌, Bool, true, false, cond, ◌&&◌, leb, ltb, eqb, List, [], ◌∷◌, length, get_or, Option, Some, None, Result, Ok, Err, refl, ap, subst, arith}
 use Rattle.std.specs.Option.{option_map, ok_or}
 use Rattle.std.specs.List.{All, AllPairs, filter_map, cons_option, list_all}
-use Rattle.std.proofs.lemmas.Bool.{leb-true, eqb-true, ltb-false, both_ways}
+use Rattle.std.proofs.lemmas.Bool.{leb-true, ltb-false}
 use Rattle.std.proofs.lemmas.List.Elements.{All-cons}
 use Rattle.tree_model.specs.declared.step.Step.TheVariants.{ReadAt, ListAt, WriteAt, MakeAt, DropAt}
 use Rattle.script_text.specs.declared.command.FileName.{FileName}
@@ -17,7 +17,7 @@ use Rattle.script_text.specs.declared.script.Mode.{Mode}
 use Rattle.script_text.specs.declared.script.Mode.TheVariants.{Numbers, Caps}
 use Rattle.script_text.specs.declared.script.Line.{Line}
 use Rattle.script_text.specs.Words.{number_in, is_number, value_of, cap_of, words, is_allowed}
-use Rattle.script_text.specs.Grammar.{RawLine, raw_lines, raw_line, line_end, line_of, good_of, good_when, words_command, keyed_command, keyword_of, command_of, is_shape, is_guarded, then_ok, and_then, file_word, file_words, number_word, path_word, child_word, data_word, word_at}
+use Rattle.script_text.specs.Grammar.{RawLine, raw_lines, raw_line, line_of, good_of, good_when, words_command, keyed_command, keyword_of, command_of, is_shape, is_guarded, then_ok, and_then, file_word, file_words, number_word, path_word, child_word, data_word, word_at}
 use Rattle.script_text.specs.ScriptValue.{IsFile, IsCommand, IsLine, IsScript}
 
 -- what is made of a value keeps Q, where it does so of each value that there may be

@@ -3,6 +3,7 @@ use Rattle.std.specs.Prelude.{◌≡◌, ℕ, ◌+◌, ◌==◌, nat_lt, nat_le,
 use Rattle.std.specs.Option.{option_and_then, option_map, ok_or}
 use Rattle.std.specs.List.{list_all, filter_map, slice_get}
 use Rattle.std.specs.Str.{bytes_eq}
+use Rattle.afs_base.specs.declared.limits.TheConstants.{MAX_FILES, MAX_OBJECTS, MAX_SCRIPT_BYTES}
 use Rattle.tree_model.specs.declared.step.Step.TheVariants.{ReadAt, ListAt, WriteAt, MakeAt, DropAt}
 use Rattle.script_text.specs.declared.command.FileName.{FileName}
 use Rattle.script_text.specs.declared.command.FileName.TheVariants.{Number, Cap}
@@ -19,6 +20,7 @@ use Rattle.script_text.specs.declared.refused.ScriptRefused.TheVariants.{BadLine
 use Rattle.script_text.specs.declared.script.Mode.{Mode}
 use Rattle.script_text.specs.declared.script.Mode.TheVariants.{Numbers, Caps}
 use Rattle.script_text.specs.declared.script.Line.{Line}
+use Rattle.script_text.specs.declared.verdict.TheConstants.{MAX_LINES}
 use Rattle.script_text.specs.Words.{number_in, path_of, child_of, data_of, cap_of, words, pieces, without_return, is_allowed}
 
 -- the first word of each command
@@ -52,7 +54,7 @@ is_guarded Caps = true
 -- how many words follow the first, and which of them stand fixed
 abbrev pub is_shape : Mode → Keyword → List (List ℕ) → Bool
 is_shape mode BeginWord args = length args == 1
-is_shape mode SuperWord args = nat_le 2 (length args) && nat_le (length args) 17
+is_shape mode SuperWord args = nat_le 2 (length args) && nat_le (length args) MAX_FILES
 is_shape mode PickWord args = length args == 1
 is_shape mode ReadWord args = length args == 1
 is_shape mode ListWord args = length args == 1
@@ -94,7 +96,7 @@ data_word word = ok_or (data_of word) why.Data
 
 -- the file of a word: its object, 1 to 4,032, or its capability
 abbrev pub file_word : Mode → List ℕ → Result FileName LineWhy
-file_word Numbers word = ok_or (option_map Number (number_in 1 4032 word)) why.Number
+file_word Numbers word = ok_or (option_map Number (number_in 1 MAX_OBJECTS word)) why.Number
 file_word Caps word = ok_or (option_map Cap (cap_of word)) why.Capability
 
 -- the files of words, in order
@@ -169,8 +171,8 @@ lines_of bytes = raw_lines 1 0 (pieces bytes)
 -- what a line says, or what is wrong with it, the causes in their order
 abbrev pub line_of : Mode → RawLine → Result (Option Command) LineWhy
 line_of mode line =
-    if nat_lt 1000 line.number then Err why.Lines
-    else if nat_lt 65536 line.end then Err why.Size
+    if nat_lt MAX_LINES line.number then Err why.Lines
+    else if nat_lt MAX_SCRIPT_BYTES line.end then Err why.Size
     else if list_all is_allowed line.text then words_command mode (words line.text)
     else Err why.Text
 

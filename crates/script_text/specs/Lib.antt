@@ -1,7 +1,9 @@
 pub mod Calls
 pub mod Front
 pub mod Grammar
+pub mod Lines
 pub mod ReplyText
+pub mod Says
 pub mod ScriptValue
 pub mod Texts
 pub mod Words

@@ -9,6 +9,8 @@ use Rattle.tree_model.specs.declared.step.Reply.{Reply}
 use Rattle.tree_model.specs.declared.step.Reply.TheVariants.{Bytes, Slots, Done, Absent, Present}
 use Rattle.caps.specs.declared.denied.DeniedWhy.{DeniedWhy}
 use Rattle.caps.specs.declared.denied.DeniedWhy.TheVariants.{NoObject, Check, Rights}
+use Rattle.script_text.specs.declared.refused.LineWhy.{LineWhy}
+use Rattle.script_text.specs.declared.refused.LineWhy.TheVariants.{Lines, Size, Text, Word, Number, Capability, Path, Data as NoData}
 use Rattle.script_text.specs.declared.reply.LineReply.{LineReply}
 use Rattle.script_text.specs.declared.reply.LineReply.TheVariants.{Base, Committed, Stepped, Picked, Abandoned, Created, Destroyed, Pruned, Cap, Refused}
 use Rattle.script_text.specs.declared.reply.LineRefusal.{LineRefusal}
@@ -94,3 +96,14 @@ reply_text (Destroyed blocks) = codes "destroyed " ++ decimal blocks
 reply_text (Pruned first blocks) = codes "pruned " ++ (decimal first ++ (codes " " ++ decimal blocks))
 reply_text (Cap cap) = codes "cap " ++ encode_lower cap
 reply_text (Refused refusal) = refusal_text refusal
+
+-- the word for what is wrong with a line
+abbrev pub cause_text : LineWhy → List ℕ
+cause_text Lines = codes "lines"
+cause_text Size = codes "size"
+cause_text Text = codes "text"
+cause_text Word = codes "word"
+cause_text Number = codes "number"
+cause_text Capability = codes "capability"
+cause_text Path = codes "path"
+cause_text NoData = codes "data"

@@ -1,5 +1,6 @@
 -- What contracts see of a script, and what its type keeps.
-use Rattle.std.specs.Prelude.{◌≡◌, ℕ, ◌<◌, ◌≤◌, List, length, All, AllPairs}
+use Rattle.std.specs.Prelude.{◌≡◌, ◌<◌, ◌≤◌, List, length, All, AllPairs}
+use Rattle.afs_base.specs.declared.limits.TheConstants.{MAX_FILES, MAX_OBJECTS}
 use Rattle.script_text.specs.declared.command.FileName.{FileName}
 use Rattle.script_text.specs.declared.command.FileName.TheVariants.{Number, Cap}
 use Rattle.script_text.specs.declared.command.Command.{Command}
@@ -7,6 +8,7 @@ use Rattle.script_text.specs.declared.command.Command.TheVariants.{Begin, Super,
 use Rattle.script_text.specs.declared.script.Mode.{Mode}
 use Rattle.script_text.specs.declared.script.Mode.TheVariants.{Numbers, Caps}
 use Rattle.script_text.specs.declared.script.Line.{Line}
+use Rattle.script_text.specs.declared.verdict.TheConstants.{MAX_LINES}
 
 -- a script: how its files are named, and its lines that have an answer
 pub record ScriptValue : Type 0 where
@@ -15,7 +17,7 @@ pub record ScriptValue : Type 0 where
 
 -- a file is named in the mode's way, a number being one of 1 to 4,032
 abbrev pub IsFile : Mode → FileName → Type 0
-IsFile Numbers (Number n) = (1 ≤ n) × (n ≤ 4032)
+IsFile Numbers (Number n) = (1 ≤ n) × (n ≤ MAX_OBJECTS)
 IsFile Numbers (Cap cap) = ⊥
 IsFile Caps (Number n) = ⊥
 IsFile Caps (Cap cap) = Unit {0}
@@ -24,7 +26,7 @@ IsFile Caps (Cap cap) = Unit {0}
 -- where files are named by them
 abbrev pub IsCommand : Mode → Command → Type 0
 IsCommand mode (Begin file) = IsFile mode file
-IsCommand mode (Super files) = (2 ≤ length files) × (length files ≤ 17) × All (IsFile mode) files
+IsCommand mode (Super files) = (2 ≤ length files) × (length files ≤ MAX_FILES) × All (IsFile mode) files
 IsCommand mode (Pick k) = k ≤ 16
 IsCommand mode (Do step) = Unit {0}
 IsCommand mode Commit = Unit {0}
@@ -36,10 +38,10 @@ IsCommand mode (Restrict file mask) = (mode ≡ Caps) × IsFile mode file
 
 -- a line of a script: its number is one of 1 to 1,000
 abbrev pub IsLine : Mode → Line → Type 0
-IsLine mode line = (1 ≤ line.number) × (line.number ≤ 1000) × IsCommand mode line.command
+IsLine mode line = (1 ≤ line.number) × (line.number ≤ MAX_LINES) × IsCommand mode line.command
 
 -- lines of a script, which ascend
 pub record IsScript (mode : Mode) (lines : List Line) : Type 0 where
   pub each : All (IsLine mode) lines
   pub ascending : AllPairs (λ a b. a.number < b.number) lines
-  pub few : length lines ≤ 1000
+  pub few : length lines ≤ MAX_LINES

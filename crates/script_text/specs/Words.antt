@@ -5,6 +5,7 @@ use Rattle.std.specs.Result.{result_ok}
 use Rattle.std.specs.List.{slice_split, list_all}
 use Rattle.std.specs.Str.{bytes_eq}
 use Rattle.hex.specs.Hex.{decode_of}
+use Rattle.afs_base.specs.declared.limits.TheConstants.{MAX_DATA, MAX_DEPTH}
 use Rattle.caps.specs.Capability.{bad_place}
 
 -- the pieces between line feeds
@@ -56,11 +57,11 @@ slots_of (w ∷ ws) = option_and_then (λ s. option_map (λ ss. s ∷ ss) (slots
 -- a path with one more slot, where there is one and the path has fewer than seven
 abbrev pub deeper : List ℕ → Option ℕ → Option (List ℕ)
 deeper path None = None
-deeper path (Some s) = if length path == 7 then None else Some (path ++ s ∷ [])
+deeper path (Some s) = if length path == MAX_DEPTH then None else Some (path ++ s ∷ [])
 
 -- one to seven slots
 abbrev pub short_path : List (List ℕ) → Option (List ℕ)
-short_path ws = if nat_le (length ws) 7 then slots_of ws else None
+short_path ws = if nat_le (length ws) MAX_DEPTH then slots_of ws else None
 
 -- the path of a word: `/`, or one to seven times a stroke and a slot
 abbrev pub path_of : List ℕ → Option (List ℕ)
@@ -78,7 +79,7 @@ child_of (s ∷ ss) = Some (take (length ss) (s ∷ ss), slice_index (s ∷ ss) 
 abbrev pub data_of : List ℕ → Option (List ℕ)
 data_of word =
     if bytes_eq word (codes "-") then Some []
-    else if nat_le (length word) 1600 then result_ok (decode_of word)
+    else if nat_le (length word) (2 * MAX_DATA) then result_ok (decode_of word)
     else None
 
 -- the capability of a word of 32 hexadecimal digits

@@ -5,7 +5,7 @@ use caps::Capability;
 use tree_model::Step;
 
 /// How a script names a file.
-#[derive(Clone, Copy, Debug)]
+#[derive(Clone, Copy, Debug, PartialEq, Eq)]
 pub enum FileName {
     /// By its object, 1 to 4,032.
     Number(u32),
@@ -25,7 +25,7 @@ impl Default for FileName {
 }
 
 /// What a line of a script asks for.
-#[derive(Debug, Drop)]
+#[derive(Debug, PartialEq, Eq, Drop)]
 pub enum Command {
     /// Opens an update of one file.
     Begin { file: FileName },

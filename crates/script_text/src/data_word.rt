@@ -1,21 +1,18 @@
-ghost use Rattle.std.specs.Prelude.{◌≡◌, ◌≤◌, ◌/◌, length, Option, Ok};
+ghost use Rattle.std.specs.Prelude.{◌≡◌, ◌≤◌, ◌/◌, ◌*◌, length, Option, Ok};
 ghost use Rattle.std.specs.Result.{result_ok};
 ghost use Rattle.hex.specs.Hex.{decode_of};
 ghost use Rattle.script_text.specs.Grammar.{data_word};
 ghost use Rattle.script_text.specs.Words.{data_of};
 
 use crate::refused::LineWhy;
-use afs_base::PageData;
-
-/// The most hexadecimal digits of a page's data.
-const MAX_DIGITS: usize = 1600;
+use afs_base::{MAX_DATA, PageData};
 
 /// The bytes that hexadecimal digits stand for.
 fn digits_data(word: &[u8]) -> Option<PageData>
-    requires { length word.now ≤ 1600 }
+    requires { length word.now ≤ 2 * MAX_DATA }
     ensures { result ≡ result_ok (decode_of word.now) }
 {
-    let mut places = [0; 800];
+    let mut places = [0; MAX_DATA];
     let half = word.len() / 2;
     let bytes = &mut places[..half];
     match hex::decode_to_slice(word, bytes) {
@@ -31,7 +28,7 @@ fn data_of(word: &[u8]) -> Option<PageData>
     if word == b"-".as_slice() {
         return Some(PageData::empty());
     }
-    if word.len() > MAX_DIGITS {
+    if word.len() > 2 * MAX_DATA {
         return None;
     }
     digits_data(word)

@@ -9,10 +9,8 @@ use crate::number::number_word;
 use crate::refused::LineWhy;
 use crate::script::Mode;
 use crate::word::word_at;
+use afs_base::{MAX_FILES, MAX_OBJECTS};
 use caps::Capability;
-
-/// The most files of a store.
-const MAX_OBJECT: u32 = 4032;
 
 /// The capability that a word writes.
 fn cap_of(word: &[u8]) -> Option<Capability>
@@ -26,7 +24,10 @@ pub fn file_word(mode: Mode, word: &[u8]) -> Result<FileName, LineWhy>
     ensures { result ≡ file_word mode word.now }
 {
     match mode {
-        Mode::Numbers => Ok(FileName::Number(number_word(1, MAX_OBJECT, word)?)),
+        Mode::Numbers => {
+            let object = number_word(1, u64::from(MAX_OBJECTS), word)?;
+            Ok(FileName::Number(object as u32))
+        }
         Mode::Caps => match cap_of(word) {
             Some(cap) => Ok(FileName::Cap(cap)),
             None => Err(LineWhy::Capability),
@@ -36,7 +37,7 @@ pub fn file_word(mode: Mode, word: &[u8]) -> Result<FileName, LineWhy>
 
 /// The files of words, in order, or why the first that is none is none.
 pub fn file_words(mode: Mode, args: &[&[u8]]) -> Result<Files17, LineWhy>
-    requires { length args.now ≤ 17 }
+    requires { length args.now ≤ MAX_FILES }
     ensures { result ≡ file_words mode (texts args.now) }
 {
     let mut files = Files17::none();

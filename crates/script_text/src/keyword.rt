@@ -4,6 +4,7 @@ ghost use Rattle.script_text.specs.Texts.{texts};
 
 use crate::script::Mode;
 use crate::word::word_at;
+use afs_base::MAX_FILES;
 
 /// The first words of the commands.
 #[derive(Clone, Copy, Debug)]
@@ -79,9 +80,9 @@ pub fn is_shape(mode: Mode, key: Keyword, args: &[&[u8]]) -> bool
         Keyword::BeginWord | Keyword::PickWord | Keyword::ReadWord | Keyword::ListWord => args.len()
             == 1,
         Keyword::MakeWord | Keyword::DropWord | Keyword::DestroyWord => args.len() == 1,
-        Keyword::SuperWord => args.len() >= 2 && args.len() <= 17,
+        Keyword::SuperWord => args.len() >= 2 && args.len() <= MAX_FILES,
         Keyword::WriteWord => args.len() == 2,
-        Keyword::CommitWord | Keyword::AbandonWord | Keyword::CreateWord => args.len() == 0,
+        Keyword::CommitWord | Keyword::AbandonWord | Keyword::CreateWord => args.is_empty(),
         Keyword::PruneWord => args.len() == 3 && word_at(args, 1) == b"keep".as_slice(),
         Keyword::RestrictWord => is_guarded(mode) && args.len() == 2,
     }

@@ -13,6 +13,7 @@ use crate::path_word::{child_word, path_word};
 use crate::refused::LineWhy;
 use crate::script::Mode;
 use crate::word::word_at;
+use afs_base::MAX_FILES;
 use tree_model::Step;
 
 fn begin(mode: Mode, file: &[u8]) -> Result<Command, LineWhy>
@@ -23,7 +24,7 @@ fn begin(mode: Mode, file: &[u8]) -> Result<Command, LineWhy>
 }
 
 fn super_(mode: Mode, args: &[&[u8]]) -> Result<Command, LineWhy>
-    requires { length args.now ≤ 17 }
+    requires { length args.now ≤ MAX_FILES }
     ensures { result ≡ then_ok Super (file_words mode (texts args.now)) }
 {
     let files = file_words(mode, args)?;
@@ -56,7 +57,9 @@ fn list(path: &[u8]) -> Result<Command, LineWhy>
 }
 
 fn write(path: &[u8], digits: &[u8]) -> Result<Command, LineWhy>
-    ensures { result ≡ and_then (λ p. then_ok (λ bytes. Do (WriteAt p bytes)) (data_word digits.now)) (path_word path.now) }
+    ensures { result
+        ≡ and_then (λ p. then_ok (λ bytes. Do (WriteAt p bytes)) (data_word digits.now))
+        (path_word path.now) }
 {
     let at = path_word(path)?;
     let bytes = data_word(digits)?;
@@ -91,7 +94,9 @@ fn destroy(mode: Mode, file: &[u8]) -> Result<Command, LineWhy>
 }
 
 fn prune(mode: Mode, file: &[u8], keep: &[u8]) -> Result<Command, LineWhy>
-    ensures { result ≡ and_then (λ f. then_ok (λ n. Prune f n) (number_word 1 65535 keep.now)) (file_word mode file.now) }
+    ensures { result
+        ≡ and_then (λ f. then_ok (λ n. Prune f n) (number_word 1 65535 keep.now))
+        (file_word mode file.now) }
 {
     let file = file_word(mode, file)?;
     let keep = number_word(1, 65535, keep)?;
@@ -102,7 +107,9 @@ fn prune(mode: Mode, file: &[u8], keep: &[u8]) -> Result<Command, LineWhy>
 }
 
 fn restrict(mode: Mode, file: &[u8], mask: &[u8]) -> Result<Command, LineWhy>
-    ensures { result ≡ and_then (λ f. then_ok (λ n. Restrict f n) (number_word 0 255 mask.now)) (file_word mode file.now) }
+    ensures { result
+        ≡ and_then (λ f. then_ok (λ n. Restrict f n) (number_word 0 255 mask.now))
+        (file_word mode file.now) }
 {
     let file = file_word(mode, file)?;
     let mask = number_word(0, 255, mask)?;

@@ -34,7 +34,8 @@ impl Model for MemSink {
 impl MemSink {
     /// The sink that appends to `buffer`, whose calls fail where their number is in `fails`. It takes no memory.
     pub fn of(buffer: Vec<u8>, fails: Vec<u64>) -> MemSink
-        ensures { result ≡ record { written = buffer.items; fails = fails.items; calls = 0; faults = 0 } }
+        ensures { result
+            ≡ record { written = buffer.items; fails = fails.items; calls = 0; faults = 0 } }
     {
         MemSink {
             buffer,
@@ -60,13 +61,15 @@ impl Sink for MemSink {
     ghost faults = { λ s. s.faults };
 
     fn put(&mut self, line: &[u8]) -> Result<(), Failed>
-        ensures ok { OnOk result (Appends (Some self.old.written) (Some self.new.written) line.now) }
-        ensures failed { OnErr result (AppendsFront (Some self.old.written) (Some self.new.written) line.now) }
+        ensures ok { OnOk result
+            (Appends (Some self.old.written) (Some self.new.written) line.now) }
+        ensures failed { OnErr result
+            (AppendsFront (Some self.old.written) (Some self.new.written) line.now) }
         ensures cause { HasCause self.old.faults self.new.faults result }
         ensures whole { OnErr result (self.new.written ≡ self.old.written) }
         ensures listed { IsListed self.old.fails self.old.calls → IsErr result }
-        ensures counts { CountsCall (is_err result) self.old.fails self.new.fails self.old.calls self.new.calls
-            self.old.faults self.new.faults }
+        ensures counts { CountsCall (is_err result) self.old.fails self.new.fails self.old.calls
+            self.new.calls self.old.faults self.new.faults }
     {
         self.calls = self.calls.saturating_add(1);
         if self.fails.contains(&self.calls) {

@@ -38,7 +38,8 @@ impl Model for MemSource {
 impl MemSource {
     /// The source of these bytes, whose calls fail where their number is in `fails`. It takes no memory.
     pub fn of(bytes: Vec<u8>, fails: Vec<u64>) -> MemSource
-        ensures { result ≡ record { left = bytes.items; fails = fails.items; calls = 0; faults = 0 } }
+        ensures { result
+            ≡ record { left = bytes.items; fails = fails.items; calls = 0; faults = 0 } }
     {
         MemSource {
             bytes,
@@ -64,8 +65,8 @@ impl Source for MemSource {
         ensures cause { HasCause self.old.faults self.new.faults result }
         ensures listed { IsErr result ↔ IsListed self.old.fails self.old.calls }
         ensures full { IfOk result (λ n. n ≡ min (length self.old.left) (length buf.old)) }
-        ensures counts { CountsCall (is_err result) self.old.fails self.new.fails self.old.calls self.new.calls
-            self.old.faults self.new.faults }
+        ensures counts { CountsCall (is_err result) self.old.fails self.new.fails self.old.calls
+            self.new.calls self.old.faults self.new.faults }
     {
         self.calls = self.calls.saturating_add(1);
         if self.fails.contains(&self.calls) {

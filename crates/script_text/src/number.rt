@@ -1,6 +1,7 @@
-ghost use Rattle.std.specs.Prelude.{◌≡◌, ◌<◌, ◌^◌, ◌-◌, min, true};
+ghost use Rattle.std.specs.Prelude.{◌≡◌, ℕ, ◌^◌, ◌-◌, min, true, MatchOption};
 ghost use Rattle.std.specs.List.{list_all};
 ghost use Rattle.script_text.specs.Grammar.{number_word};
+ghost use Rattle.script_text.specs.Says.{IsNumberIn};
 ghost use Rattle.script_text.specs.Words.{is_digit, is_number, number_in, value_of};
 
 use crate::refused::LineWhy;
@@ -19,39 +20,46 @@ fn is_number(word: &[u8]) -> bool
     are_digits(word) && (word.len() == 1 || (word.len() > 1 && word[0] != b'0'))
 }
 
-/// The value of digits, or the last of a u32 where it is greater.
-fn value_of(digits: &[u8]) -> u32
+/// The value of digits, or the last of a u128 where it is greater.
+fn value_of(digits: &[u8]) -> u128
     requires { list_all is_digit digits.now ≡ true }
-    ensures { result ≡ min (value_of digits.now) (2 ^ 32 - 1) }
+    ensures { result ≡ min (value_of digits.now) (2 ^ 128 - 1) }
 {
-    let mut value = 0u32;
+    let mut value = 0u128;
     for digit in digits {
         value = value
             .saturating_mul(10)
-            .saturating_add(u32::from(*digit - b'0'));
+            .saturating_add(u128::from(*digit - b'0'));
     }
     value
 }
 
-/// The number of a word, where it is one and lies in the range.
-pub fn number_in(low: u32, high: u32, word: &[u8]) -> Option<u32>
-    requires { high < 2 ^ 32 - 1 }
+/// The number that a word writes, where it is one and lies from `low` to `high`.
+fn read_number(low: u64, high: u64, word: &[u8]) -> Option<u64>
     ensures { result ≡ number_in low high word.now }
 {
     if !is_number(word) {
         return None;
     }
     let value = value_of(word);
-    if value >= low && value <= high {
-        Some(value)
+    if value >= u128::from(low) && value <= u128::from(high) {
+        Some(value as u64)
     } else {
         None
     }
 }
 
+/// The number that a word writes in decimal digits without a leading zero, where it is one and lies from `low` to `high`.
+pub fn number_in(low: u64, high: u64, word: &[u8]) -> Option<u64>
+    ensures read { result ≡ number_in low high word.now }
+    ensures says { MatchOption result ((n : ℕ) → IsNumberIn low high word.now n → ⊥)
+        (IsNumberIn low high word.now) }
+{
+    read_number(low, high, word)
+}
+
 /// The number of a word, or why it is none.
-pub fn number_word(low: u32, high: u32, word: &[u8]) -> Result<u32, LineWhy>
-    requires { high < 2 ^ 32 - 1 }
+pub(crate) fn number_word(low: u64, high: u64, word: &[u8]) -> Result<u64, LineWhy>
     ensures { result ≡ number_word low high word.now }
 {
     number_in(low, high, word).ok_or(LineWhy::Number)

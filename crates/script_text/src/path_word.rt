@@ -23,7 +23,7 @@ fn path_of(word: &[u8]) -> Option<Path>
     if word == b"/".as_slice() {
         return Some(Path::root());
     }
-    if word.len() == 0 || word[0] != b'/' {
+    if word.is_empty() || word[0] != b'/' {
         return None;
     }
     slots_path(&word[1..])

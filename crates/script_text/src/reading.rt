@@ -1,48 +1,51 @@
-ghost use Rattle.std.specs.Prelude.{◌≡◌, ◌≤◌, ◌++◌, [], IfOk, IfErr, OnOk, None, option_to_list};
-ghost use Rattle.std.specs.List.{filter_map};
-ghost use Rattle.script_text.specs.Grammar.{IsInGrammar, IsRefusal, bad_lines, good_lines, bad_of, good_of, raw_lines, line_end, line_text};
-ghost use Rattle.script_text.specs.Texts.{texts};
+ghost use Rattle.std.specs.Prelude.{◌≡◌, ◌≤◌, ◌++◌, ◌↔◌, ◌==◌, [], IfOk, IfErr, OnOk, None, option_to_list};
+ghost use Rattle.std.specs.List.{All, Contains, filter_map};
+ghost use Rattle.script_text.specs.declared.script.Line.{Line};
+ghost use Rattle.script_text.specs.Grammar.{IsInGrammar, IsRefusal, bad_lines, good_lines, bad_of, good_of, lines_of, line_end, line_text};
+ghost use Rattle.script_text.specs.Lines.{Asks, IsInForm, IsRefusedFor};
 
 use crate::refused::{LineFault, ScriptRefused};
 use crate::script::{Line, Mode, Script};
-use crate::verdict::line_of;
-use crate::word::{pieces, without_return, word_at};
+use crate::verdict::{MAX_LINES, line_of};
+use crate::word::without_return;
+use afs_base::MAX_SCRIPT_BYTES;
 use std::alloc::Global;
 
 /// Reads a script, or says which is its least bad line and what is wrong with that.
 pub fn parse(alloc: Global, mode: Mode, bytes: &[u8]) -> Result<Script, ScriptRefused>
+    // What is read: each line is in the grammar, and the script has those lines whose words say a command.
+    ensures form { IfOk result (λ s. All (IsInForm mode) (lines_of bytes.now)) }
+    ensures says { IfOk result
+        (λ s. (line : Line) → Contains s.lines line ↔ Asks mode bytes.now line) }
+    ensures lines { IfOk result
+        (λ s. s ≡ record { mode = mode; lines = good_lines mode bytes.now }) }
     ensures ok { IfOk result (λ s. IsInGrammar mode bytes.now) }
-    ensures lines { IfOk result (λ s. s ≡ record { mode = mode; lines = good_lines mode bytes.now }) }
+
+    // What is not read: the least line that is outside the grammar is named, with its first cause.
+    ensures out { IfErr result (λ e. IsRefusedFor e mode bytes.now) }
     ensures refused { IfErr result (λ e. IsRefusal e (bad_lines mode bytes.now)) }
 {
-    let pieces = pieces(alloc, bytes)?;
-    let lines = read_lines(alloc, mode, pieces.as_slice())?;
+    let lines = read_lines(alloc, mode, bytes)?;
     Ok(Script::of(mode, lines))
 }
 
-/// Reads the lines of the pieces of a text.
-fn read_lines(alloc: Global, mode: Mode, pieces: &[&[u8]]) -> Result<Vec<Line>, ScriptRefused>
-    ensures ok { IfOk result (λ v. filter_map (bad_of mode) (raw_lines 1 0 (texts pieces.now)) ≡ []) }
-    ensures lines { IfOk result (λ v. v.items ≡ filter_map (good_of mode) (raw_lines 1 0 (texts pieces.now))) }
-    ensures refused { IfErr result (λ e. IsRefusal e (filter_map (bad_of mode) (raw_lines 1 0 (texts pieces.now)))) }
+/// Reads the lines of a text up to the first that is bad.
+fn read_lines(alloc: Global, mode: Mode, bytes: &[u8]) -> Result<Vec<Line>, ScriptRefused>
+    ensures ok { IfOk result (λ v. bad_lines mode bytes.now ≡ []) }
+    ensures lines { IfOk result (λ v. v.items ≡ good_lines mode bytes.now) }
+    ensures refused { IfErr result (λ e. IsRefusal e (bad_lines mode bytes.now)) }
 {
     let mut lines = Vec::new(alloc);
+    let mut number = 0u32;
     let mut start = 0;
-    'pieces: for i in 0..pieces.len() {
-        let piece = word_at(pieces, i);
-        let last = i + 1 == pieces.len();
-        if last && piece.len() == 0 {
+    for piece in bytes.split(|b| *b == b'\n') {
+        let last = start + piece.len() == bytes.len();
+        if last && piece.is_empty() {
             return Ok(lines);
         }
+        number += 1;
         let end = line_end(start, last, piece);
-        read_line(
-            alloc,
-            mode,
-            (i + 1) as u32,
-            end,
-            line_text(last, piece),
-            &mut lines,
-        )?;
+        read_line(alloc, mode, number, end, line_text(last, piece), &mut lines)?;
         start = end;
     }
     Ok(lines)
@@ -50,7 +53,7 @@ fn read_lines(alloc: Global, mode: Mode, pieces: &[&[u8]]) -> Result<Vec<Line>, 
 
 /// Where a line ends, its line feed included.
 fn line_end(start: usize, last: bool, piece: &[u8]) -> usize
-    requires { start ≤ 65536 }
+    requires { start ≤ MAX_SCRIPT_BYTES }
     ensures { result ≡ line_end start last piece.now }
 {
     if last {
@@ -76,12 +79,14 @@ fn read_line(
     text: &[u8],
     lines: &mut Vec<Line>,
 ) -> Result<(), ScriptRefused>
-    ensures bounds { OnOk result ((number ≤ 1000) × (end ≤ 65536)) }
-    ensures ok { OnOk result (bad_of mode (record { number = number; end = end; text = text.now }) ≡ None) }
+    ensures bounds { OnOk result ((number ≤ MAX_LINES) × (end ≤ MAX_SCRIPT_BYTES)) }
+    ensures ok { OnOk result
+        (bad_of mode (record { number = number; end = end; text = text.now }) ≡ None) }
     ensures lines { OnOk result (lines.new.items
-        ≡ lines.old.items ++ option_to_list (good_of mode (record { number = number; end = end; text = text.now }))) }
-    ensures refused { IfErr result (λ e.
-        IsRefusal e (option_to_list (bad_of mode (record { number = number; end = end; text = text.now })))) }
+        ≡ lines.old.items ++ option_to_list
+        (good_of mode (record { number = number; end = end; text = text.now }))) }
+    ensures refused { IfErr result (λ e. IsRefusal e (option_to_list
+        (bad_of mode (record { number = number; end = end; text = text.now })))) }
 {
     match line_of(alloc, mode, number, end, text) {
         Ok(Some(command)) => {

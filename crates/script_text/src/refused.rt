@@ -25,6 +25,26 @@ pub enum LineWhy {
     Data,
 }
 
+impl LineWhy {
+    ghost use Rattle.script_text.specs.ReplyText.{cause_text};
+
+    /// The word that is printed for it.
+    pub fn word(self) -> &'static str
+        ensures { result.now ≡ cause_text self }
+    {
+        match self {
+            LineWhy::Lines => "lines",
+            LineWhy::Size => "size",
+            LineWhy::Text => "text",
+            LineWhy::Word => "word",
+            LineWhy::Number => "number",
+            LineWhy::Capability => "capability",
+            LineWhy::Path => "path",
+            LineWhy::Data => "data",
+        }
+    }
+}
+
 /// Why a script is refused.
 #[derive(Clone, Copy, PartialEq, Eq, Debug, Error)]
 pub enum ScriptRefused {

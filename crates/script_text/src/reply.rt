@@ -4,7 +4,7 @@ use caps::{Capability, Denied};
 use tree_model::Reply;
 
 /// The answer to a line of a script.
-#[derive(Debug, Drop)]
+#[derive(Debug, PartialEq, Eq, Drop)]
 pub enum LineReply {
     /// An update is open on these versions.
     Base(Serials),
@@ -37,7 +37,7 @@ pub enum LineReply {
 }
 
 /// Why a line is refused.
-#[derive(Clone, Copy, Debug)]
+#[derive(Clone, Copy, Debug, PartialEq, Eq)]
 pub enum LineRefusal {
     /// An update is open.
     Open,

@@ -7,11 +7,11 @@ ghost use Rattle.script_text.specs.ReplyText.{spaced, slots_text, data_text, ste
 
 use crate::reply::{LineRefusal, LineReply};
 use crate::serials::Serials;
-use afs_base::{Kind, Path};
+use afs_base::{Kind, Memory, Path};
 use caps::{Capability, DeniedWhy};
 use std::alloc::{AllocError, Global};
 use std::fmt::Write;
-use tree_model::{Memory, Reply};
+use tree_model::Reply;
 
 /// Appends the text of an answer, without a line feed. Without memory for it nothing is appended.
 pub fn print_reply(alloc: Global, reply: &LineReply, out: &mut Vec<u8>) -> Result<(), Memory>
@@ -41,14 +41,16 @@ fn reply_text(alloc: Global, reply: &LineReply) -> Result<String, AllocError>
 }
 
 fn base_text(alloc: Global, serials: &Serials) -> Result<String, AllocError>
-    ensures { IfOk result (λ text. string_bytes text ≡ codes "base" ++ flat_map spaced serials.now) }
+    ensures { IfOk result
+        (λ text. string_bytes text ≡ codes "base" ++ flat_map spaced serials.now) }
 {
     let words = serials_text(alloc, serials.as_slice())?;
     format!(in alloc; "base{words}")
 }
 
 fn committed_text(alloc: Global, serials: &Serials) -> Result<String, AllocError>
-    ensures { IfOk result (λ text. string_bytes text ≡ codes "committed" ++ flat_map spaced serials.now) }
+    ensures { IfOk result
+        (λ text. string_bytes text ≡ codes "committed" ++ flat_map spaced serials.now) }
 {
     let words = serials_text(alloc, serials.as_slice())?;
     format!(in alloc; "committed{words}")
@@ -157,7 +159,8 @@ fn kind_text(alloc: Global, kind: Kind) -> Result<String, AllocError>
 }
 
 fn conflict_text(alloc: Global, serial: u64, path: &Path, kind: Kind) -> Result<String, AllocError>
-    ensures { IfOk result (λ text. string_bytes text ≡ refusal_text (Conflict serial path.now kind)) }
+    ensures { IfOk result
+        (λ text. string_bytes text ≡ refusal_text (Conflict serial path.now kind)) }
 {
     let path = path_text(alloc, path)?;
     let kind = kind_text(alloc, kind)?;

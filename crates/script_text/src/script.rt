@@ -1,6 +1,7 @@
-ghost use Rattle.std.specs.Prelude.{◌≡◌, ◌<◌, ◌≤◌, ℕ, length, slice_get, Some};
+ghost use Rattle.std.specs.Prelude.{◌≡◌, ◌<◌, ◌≤◌, ◌↔◌, ℕ, [], IsTrue, length, slice_get, Some};
 
 use crate::command::Command;
+use crate::verdict::MAX_LINES;
 use std::marker::Model;
 
 /// How the files of a script are named.
@@ -13,7 +14,7 @@ pub enum Mode {
 }
 
 /// A line of a script that has an answer.
-#[derive(Debug, Drop)]
+#[derive(Debug, PartialEq, Eq, Drop)]
 pub struct Line {
     /// The line's number in the text, from 1; lines without words and comments count.
     pub number: u32,
@@ -60,9 +61,16 @@ impl Script {
     /// How many lines have an answer, at most 1,000.
     pub fn len(&self) -> usize
         ensures value { result ≡ length self.now.lines }
-        ensures most { result ≤ 1000 }
+        ensures most { result ≤ MAX_LINES }
     {
         self.lines.len()
+    }
+
+    /// Whether no line has an answer.
+    pub fn is_empty(&self) -> bool
+        ensures { IsTrue result ↔ (self.now.lines ≡ []) }
+    {
+        self.lines.is_empty()
     }
 
     /// The line at place `i`, from 0.

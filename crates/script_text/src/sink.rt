@@ -16,6 +16,7 @@ pub trait Sink {
     /// Appends a line. A call that fails has appended a front of it.
     fn put(&mut self, line: &[u8]) -> Result<(), Failed>
         ensures ok { OnOk result (Appends (written self.old) (written self.new) line.now) }
-        ensures failed { OnErr result (AppendsFront (written self.old) (written self.new) line.now) }
+        ensures failed { OnErr result
+            (AppendsFront (written self.old) (written self.new) line.now) }
         ensures cause { HasCause (faults self.old) (faults self.new) result };
 }

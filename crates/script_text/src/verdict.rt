@@ -8,13 +8,11 @@ use crate::line::command_of;
 use crate::refused::{LineFault, LineWhy};
 use crate::script::Mode;
 use crate::word::{is_text, word_at, words};
+use afs_base::MAX_SCRIPT_BYTES;
 use std::alloc::Global;
 
-/// The most lines of a script.
-const MAX_LINES: u32 = 1000;
-
-/// The most bytes of a script.
-const MAX_BYTES: usize = 65_536;
+/// The greatest number of lines of a script, whatever they say.
+pub const MAX_LINES: u32 = 1000;
 
 /// What a line says, or what is wrong with it.
 pub fn line_of(
@@ -24,13 +22,15 @@ pub fn line_of(
     end: usize,
     text: &[u8],
 ) -> Result<Option<Command>, LineFault>
-    ensures ok { IfOk result (λ c. line_of mode (record { number = number; end = end; text = text.now }) ≡ Ok c) }
-    ensures fault { IfErr result (λ e. IsFault e (line_of mode (record { number = number; end = end; text = text.now }))) }
+    ensures ok { IfOk result
+        (λ c. line_of mode (record { number = number; end = end; text = text.now }) ≡ Ok c) }
+    ensures fault { IfErr result (λ e. IsFault e
+        (line_of mode (record { number = number; end = end; text = text.now }))) }
 {
     if number > MAX_LINES {
         return Err(LineFault::Bad(LineWhy::Lines));
     }
-    if end > MAX_BYTES {
+    if end > MAX_SCRIPT_BYTES {
         return Err(LineFault::Bad(LineWhy::Size));
     }
     if !is_text(text) {
@@ -44,7 +44,7 @@ pub fn line_of(
 fn words_command(mode: Mode, words: &[&[u8]]) -> Result<Option<Command>, LineWhy>
     ensures { result ≡ words_command mode (texts words.now) }
 {
-    if words.len() == 0 {
+    if words.is_empty() {
         return Ok(None);
     }
     let word = word_at(words, 0);
@@ -59,7 +59,7 @@ fn words_command(mode: Mode, words: &[&[u8]]) -> Result<Option<Command>, LineWhy
 fn is_comment(word: &[u8]) -> bool
     ensures { result ≡ (slice_index word.now 0 == 35) }
 {
-    word.len() > 0 && word[0] == b'#'
+    !word.is_empty() && word[0] == b'#'
 }
 
 /// The command of a first word and the words after it.

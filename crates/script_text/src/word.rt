@@ -1,23 +1,16 @@
 ghost use Rattle.std.specs.Prelude.{◌≡◌, ◌<◌, ◌==◌, IfOk, length, slice_index, take};
 ghost use Rattle.std.specs.List.{list_all};
 ghost use Rattle.script_text.specs.Grammar.{word_at};
-ghost use Rattle.script_text.specs.Words.{pieces, words, without_return, is_allowed, is_word};
+ghost use Rattle.script_text.specs.Words.{words, without_return, is_allowed, is_word};
 ghost use Rattle.script_text.specs.Texts.{texts};
 
 use std::alloc::{AllocError, Global};
-
-/// The pieces of a text between its line feeds.
-pub fn pieces(alloc: Global, bytes: &[u8]) -> Result<Vec<&[u8]>, AllocError>
-    ensures { IfOk result (λ v. texts v.items ≡ pieces bytes.now) }
-{
-    bytes.split(|b| *b == b'\n').collect(alloc)
-}
 
 /// Whether a piece has a byte.
 fn is_word(piece: &[u8]) -> bool
     ensures { result ≡ is_word piece.now }
 {
-    piece.len() > 0
+    !piece.is_empty()
 }
 
 /// The words of a line: what stands between its spaces.
@@ -41,7 +34,7 @@ pub fn word_at<'a>(args: &[&'a [u8]], i: usize) -> &'a [u8]
 pub fn without_return(line: &[u8]) -> &[u8]
     ensures { result.now ≡ without_return line.now }
 {
-    if line.len() > 0 && line[line.len() - 1] == b'\r' {
+    if !line.is_empty() && line[line.len() - 1] == b'\r' {
         &line[..line.len() - 1]
     } else {
         line

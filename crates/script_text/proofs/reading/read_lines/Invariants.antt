@@ -1,6 +1,11 @@
-use Rattle.script_text.specs.Texts.{texts}
-use Rattle.script_text.proofs.LineLemmas.{ReadsLines}
+use Rattle.std.proofs.Common.{◌≡◌, length}
+use Rattle.script_text.specs.Words.{pieces}
+use Rattle.script_text.proofs.LineLemmas.{ReadsLines, StandsAt}
 use Rattle.script_text.proofs.reading.read_lines.Given as goal
 
-abbrev pub invariant-pieces : goal.invariant-pieces
-invariant-pieces l = ReadsLines l.mode (texts l.pieces) l.i l.start l.lines.items
+abbrev pub invariant-loop-piece : goal.invariant-loop-piece
+invariant-loop-piece l = record {
+  count : l.number ≡ length l.yielded;
+  read : ReadsLines l.mode (pieces l.bytes) (length l.yielded) l.start l.lines.items;
+  stands : StandsAt l.bytes (pieces l.bytes) (length l.yielded) l.start;
+}
