@@ -12,7 +12,7 @@ use Rattle.page_codec.proofs.SlotLaws.{unused_references}
 use Rattle.page_codec.specs.Causes.{page_of, version_of, page_causes, first_cause}
 use Rattle.page_codec.specs.Facts.{PageFacts}
 use Rattle.page_codec.proofs.FactLaws.{PageFacts-none}
-use Rattle.draft_model.specs.Places.{Store, block_at}
+use Rattle.page_places.specs.Places.{Store, block_at}
 use Rattle.store_model.specs.Walk.{Blocks, Refused}
 use Rattle.store_model.specs.Laws.{page_of_block, pages_of, read_of}
 use Rattle.store_model.proofs.Reading.{Content, Uncaused, uncaused, reads_version, reads_page}

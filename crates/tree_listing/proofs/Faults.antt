@@ -8,7 +8,7 @@ use Rattle.std.specs.Ordering.{ordering_reverse}
 use Rattle.afs_base.specs.Path.{path_cmp}
 use Rattle.tree_model.proofs.Paths.{path_total, path_only}
 use Rattle.page_codec.specs.Values.{PageValue, ReferenceValue}
-use Rattle.draft_model.specs.Places.{Store, block_at, slot_block}
+use Rattle.page_places.specs.Places.{Store, block_at, slot_block}
 use Rattle.store_model.specs.Walk.{Blocks, Refused}
 use Rattle.store_model.specs.Laws.{pages_of}
 use Rattle.tree_listing.specs.FirstFault.{HasFault, HeldHasNoFault, IsFirstFault, FirstFaultIsOne, above, and_then, page_as, page_named, root_in}

@@ -8,7 +8,7 @@ use Rattle.afs_base.specs.Path.{path_cmp}
 use Rattle.tree_model.specs.Trees.{Tree}
 use Rattle.tree_model.proofs.Paths.{path_total, path_only}
 use Rattle.page_codec.specs.Values.{PageValue, ReferenceValue}
-use Rattle.draft_model.specs.Places.{Store, Holds, block_at, slot_block}
+use Rattle.page_places.specs.Places.{Store, Holds, block_at, slot_block}
 use Rattle.store_model.specs.Walk.{Blocks}
 use Rattle.store_model.specs.Laws.{pages_of}
 use Rattle.tree_listing.specs.FirstFault.{and_then, root_in}

@@ -1,16 +1,17 @@
 -- Reads leave what a walk goes over, and a walk over slots is gathered slot by slot.
-use Rattle.std.proofs.Common.{◌≡◌, inl, inr, ℕ, zero, suc, ◌+◌, ◌≤◌, ◌<◌, List, [], ◌∷◌, ◌++◌, length, drop, map, ◌-◌, Option, Some, Result, Ok, Err, OnOk, refl, sym, ap, subst, ◌∙◌, arith, get_or, add-one, append_assoc, append-nil}
+use Rattle.std.proofs.Common.{◌≡◌, inl, inr, ℕ, zero, suc, ◌+◌, ◌≤◌, ◌<◌, List, [], ◌∷◌, ◌++◌, length, drop, map, ◌-◌, Some, Result, Ok, Err, OnOk, refl, sym, ap, subst, ◌∙◌, arith, get_or, add-one, append_assoc, append-nil}
 use Rattle.std.specs.List.{slice_get}
 use Rattle.std.specs.Option.{option_and_then}
 use Rattle.std.proofs.Math.Seq.{drop-cons}
 use Rattle.std.proofs.Math.ListN.{drop_of_length-le}
 use Rattle.drives.specs.declared.device.Half.{Half}
 use Rattle.page_codec.specs.Values.{ReferenceValue, PageValue}
-use Rattle.draft_model.specs.Places.{Store, block_at}
+use Rattle.page_places.specs.Places.{Store, block_at}
 use Rattle.store_model.specs.Walk.{Blocks, Refused}
 use Rattle.store_model.specs.Laws.{pages_of, page_of_block}
 use Rattle.store_check.specs.Since.{OnlyRead, IsUnreadSince}
 use Rattle.store_check.proofs.ReadOnly.{unread_before, failed_before}
+use Rattle.pair_store.specs.declared.store.Blocks.{Ghosts}
 use Rattle.pair_store.specs.Faults.{IsStopped, IsUnread}
 use Rattle.tree_listing.specs.declared.refused.ListingRefused.{ListingRefused}
 use Rattle.tree_listing.specs.declared.refused.ListingRefused.TheVariants.{ReadFault, BadStore, Memory}
@@ -27,31 +28,32 @@ use Rattle.tree_listing.proofs.Ordered.{rising_first, below_longer}
 
 -- ---- reads
 
-module _ {D : Type 0} (tells : Type 0) (size moment : D → ℕ) (content : D → ℕ → Option (List ℕ)) (may_leave : D → ℕ → (ℕ → Option (List ℕ)) → Type 0) (settled settled_always : D → ℕ → Type 0) (faults last_fault : D → Half → ℕ) where
-  abbrev Reads : D → D → Type 0
-  Reads a b = OnlyRead tells size moment content may_leave settled settled_always faults last_fault a b
-
-  pub same_blocks : (a b : D) → Reads a b → tells → blocks_of content size b ≡ blocks_of content size a
+module _ {D : Type 0} (g : Ghosts D) where
+  pub same_blocks : (a b : D) → OnlyRead g a b → g.tells → blocks_of g.content g.size b ≡ blocks_of g.content g.size a
   same_blocks a b only told = λ i. record { content = λ n. only.same told n i; count = only.size_same i }
 
-  same_pages : (a b : D) → Reads a b → tells → pages_of (content b) ≡ pages_of (content a)
+  same_pages : (a b : D) → OnlyRead g a b → g.tells → pages_of (g.content b) ≡ pages_of (g.content a)
   same_pages a b only told = λ i n. option_and_then page_of_block (only.same told n i)
 
-  pub each_below_on : (a b : D) → Reads a b → tells → (n : ℕ) → EachBelow (settled a) (pages_of (content a)) n → EachBelow (settled b) (pages_of (content b)) n
+  pub each_below_on : (a b : D) → OnlyRead g a b → g.tells → (n : ℕ) → EachBelow (g.settled a) (pages_of (g.content a)) n
+      → EachBelow (g.settled b) (pages_of (g.content b)) n
   each_below_on a b only told n each path c e =
       (only.kept told c).1 (each path c (ap (λ (s : Store). block_at s n path) (sym (same_pages a b only told)) ∙ e))
 
-  pub each_open_on : (a b : D) → Reads a b → tells → (n : ℕ) → EachBelow (IsOpen (settled a) (content a)) (pages_of (content a)) n → EachBelow (IsOpen (settled b) (content b)) (pages_of (content b)) n
+  pub each_open_on : (a b : D) → OnlyRead g a b → g.tells → (n : ℕ) → EachBelow (IsOpen (g.settled a) (g.content a)) (pages_of (g.content a)) n
+      → EachBelow (IsOpen (g.settled b) (g.content b)) (pages_of (g.content b)) n
   each_open_on a b only told n each path c e =
       let h = each path c (ap (λ (s : Store). block_at s n path) (sym (same_pages a b only told)) ∙ e) in
       record { settled_here = (only.kept told c).1 h.settled_here; some = λ none. h.some (sym (only.same told c) ∙ none) }
 
-  pub stopped_since : (a b c : D) (h : Half) → Reads a b → IsStopped (faults b) (faults c) (last_fault c) (moment c) h → IsStopped (faults a) (faults c) (last_fault c) (moment c) h
-  stopped_since a b c h only is = record { failed = failed_before (faults a h) (faults b h) (faults c h) (last_fault c h) (only.later h).0 is.failed; last = is.last }
+  pub stopped_since : (a b c : D) (h : Half) → OnlyRead g a b → IsStopped (g.faults b) (g.faults c) (g.last_fault c) (g.moment c) h
+      → IsStopped (g.faults a) (g.faults c) (g.last_fault c) (g.moment c) h
+  stopped_since a b c h only is =
+      record { failed = failed_before (g.faults a h) (g.faults b h) (g.faults c h) (g.last_fault c h) (only.later h).0 is.failed; last = is.last }
 
   -- a fault since later is a fault since earlier
-  pub unread_since : (a b c : D) (h : Half) → Reads a b → IsUnreadSince tells moment content settled faults last_fault b c h → IsUnreadSince tells moment content settled faults last_fault a c h
-  unread_since a b c h only (n, is) = unread_before tells size moment content may_leave settled settled_always faults last_fault a b c n h only is
+  pub unread_since : (a b c : D) (h : Half) → OnlyRead g a b → IsUnreadSince g b c h → IsUnreadSince g a c h
+  unread_since a b c h only (n, is) = unread_before g a b c n h only is
 
 -- a half failed while the block had content
 pub stopped_unread : (faults faults_after last_after : Half → ℕ) (moment_after : ℕ) (Empty : Type 0) (h : Half) → (Empty → ⊥)
@@ -59,7 +61,7 @@ pub stopped_unread : (faults faults_after last_after : Half → ℕ) (moment_aft
 stopped_unread faults faults_after last_after moment_after Empty h some is = record {
   failed = is.failed;
   last = elim is.last [
-    | inl (at, last) ↦ subst (λ (k : Half). last_after k ≡ moment_after) (sym at) last
+    | inl last ↦ last
     | inr (at, stood, empty) ↦ absurd (some empty)
   ];
 }

@@ -7,7 +7,7 @@ use Rattle.page_codec.specs.declared.why.Why.{Why}
 use Rattle.page_codec.specs.declared.why.Why.TheVariants.{Closed, Reference, Level}
 use Rattle.page_codec.specs.Values.{PageValue}
 use Rattle.page_codec.specs.Causes.{page_of, version_of}
-use Rattle.draft_model.specs.Places.{Holds, block_at}
+use Rattle.page_places.specs.Places.{Holds, block_at}
 use Rattle.store_model.specs.Walk.{Blocks, Refused}
 use Rattle.store_model.specs.Laws.{pages_of}
 use Rattle.tree_listing.specs.Listing.{EachBelow}

@@ -2,7 +2,7 @@
 use Rattle.std.specs.Prelude.{◌≡◌, ℕ, ◌<◌, List, Option, Some, None, slice_get}
 use Rattle.std.specs.Option.{option_and_then}
 use Rattle.page_codec.specs.Values.{ReferenceValue}
-use Rattle.draft_model.specs.Places.{Store, block_at}
+use Rattle.page_places.specs.Places.{Store, block_at}
 use Rattle.store_model.specs.Walk.{Blocks}
 
 -- the blocks of a store, over these contents

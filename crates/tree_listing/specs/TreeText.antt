@@ -2,9 +2,18 @@
 use Rattle.std.specs.Prelude.{ℕ, List, [], ◌∷◌, ◌++◌, codes}
 use Rattle.std.specs.List.{flat_map}
 use Rattle.std.specs.FinMap as map
+use Rattle.std.specs.Fmt.{decimal}
 use Rattle.hex.specs.Hex.{encode_lower}
 use Rattle.tree_model.specs.Trees.{Tree}
-use Rattle.script_text.specs.ReplyText.{path_text}
+
+-- a slot of a path after a stroke
+abbrev pub stroke : ℕ → List ℕ
+stroke slot = 47 ∷ decimal slot
+
+-- the text of a path: `/`, or each slot after a stroke, as in `/0/15`
+abbrev pub path_text : List ℕ → List ℕ
+path_text [] = codes "/"
+path_text (slot ∷ slots) = flat_map stroke (slot ∷ slots)
 
 -- data in lower-case hexadecimal, or `-` where there is none
 abbrev pub data_word : List ℕ → List ℕ

@@ -1,13 +1,13 @@
 // The line of a page.
 ghost use Rattle.std.specs.Prelude.{◌≡◌, ◌++◌, ◌<◌, ℕ, codes, IfOk, OnOk, OnErr};
 ghost use Rattle.std.specs.String.{string_bytes};
-ghost use Rattle.script_text.specs.ReplyText.{path_text};
-ghost use Rattle.tree_listing.specs.TreeText.{data_word, page_line};
+ghost use Rattle.tree_listing.specs.TreeText.{data_word, page_line, path_text};
 
 use afs_base::Path;
 use std::alloc::{AllocError, AllocFailed, Global};
 use std::fmt::Write;
 
+/// The text of a path.
 fn path_text(alloc: Global, path: &Path) -> Result<String, AllocError>
     ensures { IfOk result (λ text. string_bytes text ≡ path_text path.now) }
 {

@@ -3,7 +3,7 @@ ghost use Rattle.std.specs.Prelude.{◌≡◌, ◌≤◌, ◌<◌, ◌+◌, ◌+
 ghost use Rattle.drives.specs.declared.device.Half.{Half};
 ghost use Rattle.page_codec.specs.declared.why.Why.{Why};
 ghost use Rattle.tree_model.specs.Trees.{Tree};
-ghost use Rattle.draft_model.specs.Places.{Holds};
+ghost use Rattle.page_places.specs.Places.{Holds};
 ghost use Rattle.store_model.specs.Laws.{pages_of};
 ghost use Rattle.pair_store.specs.Faults.{IsStopped};
 ghost use Rattle.store_check.specs.Since.{IsUnreadSince, OnlyRead};
@@ -28,14 +28,7 @@ fn child_of(path: &Path, k: usize) -> Path
     requires short { length path.now ≤ 6 }
     ensures { result ≡ path.now ++ k ∷ [] }
 {
-    let slot = match Slot::of(k as u8) {
-        Ok(slot) => slot,
-        Err(_) => unreachable!(),
-    };
-    match path.child(slot) {
-        Ok(child) => child,
-        Err(_) => unreachable!(),
-    }
+    path.below(Slot::at(k as u8))
 }
 
 /// Appends the line of a page, and the lines of all pages below it.
@@ -50,14 +43,19 @@ fn list_page<B: Blocks>(
     out: &mut Vec<u8>,
 ) -> Result<(), ListingRefused>
     requires { length path.now + depth ≡ 7 }
-    ensures only { OnlyRead B.tells B.size B.moment B.content B.may_leave B.settled B.settled_always B.faults B.last_fault store.old store.new }
+    ensures only { OnlyRead B.Blocks store.old store.new }
     ensures grows { Grows out.old.items out.new.items }
-    ensures lists { Lists IsRising (B.tells × EachBelowSlots (B.settled store.old) (pages_of (B.content store.old)) page.now.refs)
-        path.now out.old.items out.new.items result (pages_from (blocks_of B.content B.size store.old) depth n page.now) }
-    ensures stopped { B.tells → EachBelowSlots (IsOpen (B.settled store.old) (B.content store.old)) (pages_of (B.content store.old)) page.now.refs
-        → (h : Half) → IsErrOf result (ListingRefused.ReadFault h) → IsStopped (B.faults store.old) (B.faults store.new) (B.last_fault store.new) (B.moment store.new) h }
+    ensures lists { Lists IsRising (B.tells
+        × EachBelowSlots (B.settled store.old) (pages_of (B.content store.old)) page.now.refs)
+        path.now out.old.items out.new.items result
+        (pages_from (blocks_of B.content B.size store.old) depth n page.now) }
+    ensures stopped { B.tells → EachBelowSlots (IsOpen (B.settled store.old) (B.content store.old))
+        (pages_of (B.content store.old)) page.now.refs
+        → (h : Half) → IsErrOf result (ListingRefused.ReadFault h)
+        → IsStopped (B.faults store.old) (B.faults store.new) (B.last_fault store.new)
+        (B.moment store.new) h }
     ensures unread { (h : Half) → IsErrOf result (ListingRefused.ReadFault h)
-        → IsUnreadSince B.tells B.moment B.content B.settled B.faults B.last_fault store.old store.new h }
+        → IsUnreadSince B.Blocks store.old store.new h }
 {
     append_line(alloc, path, page.bytes.bytes(), out)?;
     if depth == 0 {
@@ -78,14 +76,20 @@ fn list_slots<B: Blocks>(
     out: &mut Vec<u8>,
 ) -> Result<(), ListingRefused>
     requires { length path.now + depth ≡ 6 }
-    ensures only { OnlyRead B.tells B.size B.moment B.content B.may_leave B.settled B.settled_always B.faults B.last_fault store.old store.new }
+    ensures only { OnlyRead B.Blocks store.old store.new }
     ensures grows { Grows out.old.items out.new.items }
-    ensures lists { Lists (AreBelow 16) (B.tells × EachBelowSlots (B.settled store.old) (pages_of (B.content store.old)) refs.now)
-        path.now out.old.items out.new.items result (slots_pages (pages_named (blocks_of B.content B.size store.old) depth namer) 0 refs.now) }
-    ensures stopped { B.tells → EachBelowSlots (IsOpen (B.settled store.old) (B.content store.old)) (pages_of (B.content store.old)) refs.now
-        → (h : Half) → IsErrOf result (ListingRefused.ReadFault h) → IsStopped (B.faults store.old) (B.faults store.new) (B.last_fault store.new) (B.moment store.new) h }
+    ensures lists { Lists (AreBelow 16) (B.tells
+        × EachBelowSlots (B.settled store.old) (pages_of (B.content store.old)) refs.now)
+        path.now out.old.items out.new.items result
+        (slots_pages (pages_named
+        (blocks_of B.content B.size store.old) depth namer) 0 refs.now) }
+    ensures stopped { B.tells → EachBelowSlots (IsOpen (B.settled store.old) (B.content store.old))
+        (pages_of (B.content store.old)) refs.now
+        → (h : Half) → IsErrOf result (ListingRefused.ReadFault h)
+        → IsStopped (B.faults store.old) (B.faults store.new) (B.last_fault store.new)
+        (B.moment store.new) h }
     ensures unread { (h : Half) → IsErrOf result (ListingRefused.ReadFault h)
-        → IsUnreadSince B.tells B.moment B.content B.settled B.faults B.last_fault store.old store.new h }
+        → IsUnreadSince B.Blocks store.old store.new h }
 {
     'slots: for k in 0..SLOTS {
         list_slot(alloc, store, namer, path, k, &refs[k], depth, out)?;
@@ -107,14 +111,21 @@ fn list_slot<B: Blocks>(
 ) -> Result<(), ListingRefused>
     requires slot { k < 16 }
     requires deep { length path.now + depth ≡ 6 }
-    ensures only { OnlyRead B.tells B.size B.moment B.content B.may_leave B.settled B.settled_always B.faults B.last_fault store.old store.new }
+    ensures only { OnlyRead B.Blocks store.old store.new }
     ensures grows { Grows out.old.items out.new.items }
-    ensures lists { Lists (AreUnder k) (B.tells × ((m : ℕ) → reference.now.block ≡ Some m → EachBelow (B.settled store.old) (pages_of (B.content store.old)) m))
-        path.now out.old.items out.new.items result (slot_pages (pages_named (blocks_of B.content B.size store.old) depth namer) k reference.now.block) }
-    ensures stopped { B.tells → ((m : ℕ) → reference.now.block ≡ Some m → EachBelow (IsOpen (B.settled store.old) (B.content store.old)) (pages_of (B.content store.old)) m)
-        → (h : Half) → IsErrOf result (ListingRefused.ReadFault h) → IsStopped (B.faults store.old) (B.faults store.new) (B.last_fault store.new) (B.moment store.new) h }
+    ensures lists { Lists (AreUnder k) (B.tells × ((m : ℕ) → reference.now.block ≡ Some m
+        → EachBelow (B.settled store.old) (pages_of (B.content store.old)) m))
+        path.now out.old.items out.new.items result
+        (slot_pages (pages_named
+        (blocks_of B.content B.size store.old) depth namer) k reference.now.block) }
+    ensures stopped { B.tells → ((m : ℕ) → reference.now.block ≡ Some m
+        → EachBelow (IsOpen (B.settled store.old) (B.content store.old))
+        (pages_of (B.content store.old)) m)
+        → (h : Half) → IsErrOf result (ListingRefused.ReadFault h)
+        → IsStopped (B.faults store.old) (B.faults store.new) (B.last_fault store.new)
+        (B.moment store.new) h }
     ensures unread { (h : Half) → IsErrOf result (ListingRefused.ReadFault h)
-        → IsUnreadSince B.tells B.moment B.content B.settled B.faults B.last_fault store.old store.new h }
+        → IsUnreadSince B.Blocks store.old store.new h }
 {
     match reference.block {
         None => Ok(()),
@@ -134,7 +145,7 @@ pub fn list_tree<B: Blocks>(
     root: BlockNo,
     out: &mut Vec<u8>,
 ) -> Result<(), ListingRefused>
-    ensures only { OnlyRead B.tells B.size B.moment B.content B.may_leave B.settled B.settled_always B.faults B.last_fault store.old store.new }
+    ensures only { OnlyRead B.Blocks store.old store.new }
     ensures grows { Grows out.old.items out.new.items }
     // What is appended is the text of some tree, whatever the blocks hold.
     ensures lines { OnOk result (AppendsTree out.old.items out.new.items) }
@@ -145,13 +156,16 @@ pub fn list_tree<B: Blocks>(
     // Where they hold none, the block and the cause are those of the first fault.
     ensures bad { B.tells → EachBelow (B.settled store.old) (pages_of (B.content store.old)) root
         → (block : ℕ) (why : Why) → IsErrOf result (ListingRefused.BadStore block why)
-        → IsFirstFault (blocks_of B.content B.size store.old) root (record { block = block; why = why }) }
+        → IsFirstFault (blocks_of B.content B.size store.old) root
+        (record { block = block; why = why }) }
     // And a half that failed did so in the last call.
     ensures stopped { B.tells → (tree : Tree) → Holds (pages_of (B.content store.old)) root tree
         → AreReadable (B.settled store.old) (B.size store.old) (pages_of (B.content store.old)) root
-        → (h : Half) → IsErrOf result (ListingRefused.ReadFault h) → IsStopped (B.faults store.old) (B.faults store.new) (B.last_fault store.new) (B.moment store.new) h }
+        → (h : Half) → IsErrOf result (ListingRefused.ReadFault h)
+        → IsStopped (B.faults store.old) (B.faults store.new) (B.last_fault store.new)
+        (B.moment store.new) h }
     ensures unread { (h : Half) → IsErrOf result (ListingRefused.ReadFault h)
-        → IsUnreadSince B.tells B.moment B.content B.settled B.faults B.last_fault store.old store.new h }
+        → IsUnreadSince B.Blocks store.old store.new h }
 {
     let page = root_in(store, root)?;
     list_page(alloc, store, root, &Path::root(), &page, 7, out)

@@ -36,12 +36,15 @@ fn block_named<B: Blocks>(
     namer: BlockNo,
     n: BlockNo,
 ) -> Result<Block, ListingRefused>
-    ensures only { OnlyRead B.tells B.size B.moment B.content B.may_leave B.settled B.settled_always B.faults B.last_fault store.old store.new }
-    ensures found { B.tells → B.settled store.old n → Finds result (block_named (blocks_of B.content B.size store.old) namer n) }
+    ensures only { OnlyRead B.Blocks store.old store.new }
+    ensures found { B.tells → B.settled store.old n
+        → Finds result (block_named (blocks_of B.content B.size store.old) namer n) }
     ensures stopped { B.tells → IsOpen (B.settled store.old) (B.content store.old) n
-        → (h : Half) → IsErrOf result (ListingRefused.ReadFault h) → IsStopped (B.faults store.old) (B.faults store.new) (B.last_fault store.new) (B.moment store.new) h }
+        → (h : Half) → IsErrOf result (ListingRefused.ReadFault h)
+        → IsStopped (B.faults store.old) (B.faults store.new) (B.last_fault store.new)
+        (B.moment store.new) h }
     ensures unread { (h : Half) → IsErrOf result (ListingRefused.ReadFault h)
-        → IsUnreadSince B.tells B.moment B.content B.settled B.faults B.last_fault store.old store.new h }
+        → IsUnreadSince B.Blocks store.old store.new h }
 {
     if n.get() >= store.blocks() {
         return Err(ListingRefused::BadStore {
@@ -64,12 +67,15 @@ pub fn page_named<B: Blocks>(
     n: BlockNo,
     level: u8,
 ) -> Result<Page, ListingRefused>
-    ensures only { OnlyRead B.tells B.size B.moment B.content B.may_leave B.settled B.settled_always B.faults B.last_fault store.old store.new }
-    ensures found { B.tells → B.settled store.old n → Finds result (page_named (blocks_of B.content B.size store.old) namer n level) }
+    ensures only { OnlyRead B.Blocks store.old store.new }
+    ensures found { B.tells → B.settled store.old n
+        → Finds result (page_named (blocks_of B.content B.size store.old) namer n level) }
     ensures stopped { B.tells → IsOpen (B.settled store.old) (B.content store.old) n
-        → (h : Half) → IsErrOf result (ListingRefused.ReadFault h) → IsStopped (B.faults store.old) (B.faults store.new) (B.last_fault store.new) (B.moment store.new) h }
+        → (h : Half) → IsErrOf result (ListingRefused.ReadFault h)
+        → IsStopped (B.faults store.old) (B.faults store.new) (B.last_fault store.new)
+        (B.moment store.new) h }
     ensures unread { (h : Half) → IsErrOf result (ListingRefused.ReadFault h)
-        → IsUnreadSince B.tells B.moment B.content B.settled B.faults B.last_fault store.old store.new h }
+        → IsUnreadSince B.Blocks store.old store.new h }
 {
     let block = block_named(store, namer, n)?;
     match decode_page(&block) {
@@ -93,12 +99,15 @@ pub fn page_named<B: Blocks>(
 /// The page `/` of the version in block `n`.
 #[tactic(auto, unfolding(crate::specs::FirstFault::root_in))]
 pub fn root_in<B: Blocks>(store: &mut B, n: BlockNo) -> Result<Page, ListingRefused>
-    ensures only { OnlyRead B.tells B.size B.moment B.content B.may_leave B.settled B.settled_always B.faults B.last_fault store.old store.new }
-    ensures found { B.tells → B.settled store.old n → Finds result (root_in (blocks_of B.content B.size store.old) n) }
+    ensures only { OnlyRead B.Blocks store.old store.new }
+    ensures found { B.tells → B.settled store.old n
+        → Finds result (root_in (blocks_of B.content B.size store.old) n) }
     ensures stopped { B.tells → IsOpen (B.settled store.old) (B.content store.old) n
-        → (h : Half) → IsErrOf result (ListingRefused.ReadFault h) → IsStopped (B.faults store.old) (B.faults store.new) (B.last_fault store.new) (B.moment store.new) h }
+        → (h : Half) → IsErrOf result (ListingRefused.ReadFault h)
+        → IsStopped (B.faults store.old) (B.faults store.new) (B.last_fault store.new)
+        (B.moment store.new) h }
     ensures unread { (h : Half) → IsErrOf result (ListingRefused.ReadFault h)
-        → IsUnreadSince B.tells B.moment B.content B.settled B.faults B.last_fault store.old store.new h }
+        → IsUnreadSince B.Blocks store.old store.new h }
 {
     let block = block_named(store, n, n)?;
     match decode_version(&block) {

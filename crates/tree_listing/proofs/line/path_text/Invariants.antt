@@ -1,7 +1,7 @@
 use Rattle.std.proofs.Common.{◌≡◌, take}
 use Rattle.std.specs.String.{string_bytes}
 use Rattle.std.specs.List.{flat_map}
-use Rattle.script_text.specs.ReplyText.{stroke}
+use Rattle.tree_listing.specs.TreeText.{stroke}
 use Rattle.tree_listing.proofs.line.path_text.Given as goal
 
 abbrev pub invariant-loop-slot : goal.invariant-loop-slot

@@ -20,13 +20,13 @@ pub list_page-returns-in_err-append_line-clause-only :
     goal.list_page-returns-in_err-append_line-clause-only
 list_page-returns-in_err-append_line-clause-only g t c =
     let b = g.B.Blocks in
-    none_read b.tells b.size b.moment b.content b.may_leave b.settled b.settled_always b.faults b.last_fault c.args.store.now (g.met.B.Blocks.clock c.args.store.now)
+    none_read b c.args.store.now (g.met.B.Blocks.clock c.args.store.now)
 
 pub list_page-returns-then-depth-eq0-clause-only :
     goal.list_page-returns-then-depth-eq0-clause-only
 list_page-returns-then-depth-eq0-clause-only g t c =
     let b = g.B.Blocks in
-    none_read b.tells b.size b.moment b.content b.may_leave b.settled b.settled_always b.faults b.last_fault c.args.store.now (g.met.B.Blocks.clock c.args.store.now)
+    none_read b c.args.store.now (g.met.B.Blocks.clock c.args.store.now)
 
 pub list_page-returns-then-depth-eq0-clause-lists :
     goal.list_page-returns-then-depth-eq0-clause-lists
@@ -93,13 +93,13 @@ list_slot-returns-in_err-page-in-Some-clause-stopped g t c = λ told each h is.
 pub list_slot-returns-in-None-clause-only : goal.list_slot-returns-in-None-clause-only
 list_slot-returns-in-None-clause-only g t c =
     let b = g.B.Blocks in
-    none_read b.tells b.size b.moment b.content b.may_leave b.settled b.settled_always b.faults b.last_fault c.args.store.now (g.met.B.Blocks.clock c.args.store.now)
+    none_read b c.args.store.now (g.met.B.Blocks.clock c.args.store.now)
 
 pub list_slot-returns-in_ok-page-in-Some-clause-only :
     goal.list_slot-returns-in_ok-page-in-Some-clause-only
 list_slot-returns-in_ok-page-in-Some-clause-only g t c =
     let b = g.B.Blocks in
-    read_on b.tells b.size b.moment b.content b.may_leave b.settled b.settled_always b.faults b.last_fault c.args.store.now c.page_named.new.store c.list_page.new.store
+    read_on b c.args.store.now c.page_named.new.store c.list_page.new.store
     c.in_ok-page-in-Some.ensures.only c.list_page.ensures.only
 
 pub list_slot-returns-in_ok-page-in-Some-clause-lists :
@@ -124,10 +124,10 @@ list_slot-returns-in_ok-page-in-Some-clause-lists g t c =
     let here = lists_as IsRising told1 told (path ++ k ∷ []) old new c.list_page.result (pages_from (blocks_of b.content b.size s1) c.args.depth n page) (pages_named blocks c.args.depth c.args.namer n)
     (λ x. (
       x.0,
-      λ slot m named. each_below_on b.tells b.size b.moment b.content b.may_leave b.settled b.settled_always b.faults b.last_fault s s1 first.only x.0 m
+      λ slot m named. each_below_on b s s1 first.only x.0 m
           (each_slot (b.settled s) (pages_of (b.content s)) n page (named_reads blocks c.args.namer n (7 - c.args.depth) page (found x)) (x.1 n at) slot m named),
     ))
-    (λ x. ap (λ (bs : Blocks). pages_from bs c.args.depth n page) (same_blocks b.tells b.size b.moment b.content b.may_leave b.settled b.settled_always b.faults b.last_fault s s1 first.only x.0)
+    (λ x. ap (λ (bs : Blocks). pages_from bs c.args.depth n page) (same_blocks b s s1 first.only x.0)
     ∙ sym (ap (λ r. and_then r (pages_from blocks c.args.depth n)) (found x)))
     inner in
     subst (λ (o : Option ℕ). Lists (AreUnder k) told path old new c.list_page.result (slot_pages (pages_named blocks c.args.depth c.args.namer) k o)) (sym at)
@@ -146,9 +146,9 @@ list_slot-returns-in_ok-page-in-Some-clause-stopped g t c = λ told each h is.
     let at : c.args.reference.now.block ≡ Some n = sym (ap (λ (r : ReferenceValue). r.block) c.reference.view_is) ∙ c.in-Some.is in
     let here = each n at [] n refl in
     let reads = named_reads blocks c.args.namer n (7 - c.args.depth) page (first.found told here.settled_here) in
-    stopped_since b.tells b.size b.moment b.content b.may_leave b.settled b.settled_always b.faults b.last_fault s s1 c.list_page.new.store h first.only
+    stopped_since b s s1 c.list_page.new.store h first.only
     (c.list_page.ensures.stopped told
-    (λ slot m named. each_open_on b.tells b.size b.moment b.content b.may_leave b.settled b.settled_always b.faults b.last_fault s s1 first.only told m
+    (λ slot m named. each_open_on b s s1 first.only told m
     (each_slot (IsOpen (b.settled s) (b.content s)) (pages_of (b.content s)) n page reads (each n at) slot m named))
     h is)
 
@@ -156,7 +156,7 @@ pub list_slot-returns-in_ok-page-in-Some-clause-unread :
     goal.list_slot-returns-in_ok-page-in-Some-clause-unread
 list_slot-returns-in_ok-page-in-Some-clause-unread g t c = λ h is.
     let b = g.B.Blocks in
-    unread_since b.tells b.size b.moment b.content b.may_leave b.settled b.settled_always b.faults b.last_fault c.args.store.now c.page_named.new.store c.list_page.new.store h
+    unread_since b c.args.store.now c.page_named.new.store c.list_page.new.store h
     c.in_ok-page-in-Some.ensures.only (c.list_page.ensures.unread h is)
 
 -- ---- all slots
@@ -164,7 +164,7 @@ list_slot-returns-in_ok-page-in-Some-clause-unread g t c = λ h is.
 pub list_slots-slots-init : goal.list_slots-slots-init
 list_slots-slots-init g t c =
     let b = g.B.Blocks in record {
-      only = none_read b.tells b.size b.moment b.content b.may_leave b.settled b.settled_always b.faults b.last_fault c.args.store.now (g.met.B.Blocks.clock c.args.store.now);
+      only = none_read b c.args.store.now (g.met.B.Blocks.clock c.args.store.now);
       grows = grows_none c.args.out.now.items;
       far = slots_begin _ _ c.args.refs.now c.args.path.now c.args.out.now.items;
     }
@@ -173,7 +173,7 @@ pub list_slots-returns-in_err-list_slot-clause-only :
     goal.list_slots-returns-in_err-list_slot-clause-only
 list_slots-returns-in_err-list_slot-clause-only g t c =
     let b = g.B.Blocks in
-    read_on b.tells b.size b.moment b.content b.may_leave b.settled b.settled_always b.faults b.last_fault c.args.store.now c.slots.store c.list_slot.new.store
+    read_on b c.args.store.now c.slots.store c.list_slot.new.store
     c.slots.invariant.only c.in_err-list_slot.ensures.only
 
 pub list_slots-returns-in_err-list_slot-clause-lists :
@@ -191,10 +191,10 @@ list_slots-returns-in_err-list_slot-clause-lists g t c =
     lists_exit (AreBelow 16) _ c.args.path.now c.args.out.now.items c.list_slot.new.out.items c.from_residual.result stop _ (p.1 ∙ ap Err p.2)
     (slots_refused _ (pages_named (blocks_of b.content b.size s) c.args.depth c.args.namer) refs c.args.path.now c.args.out.now.items c.slots.out.items k other stop low i.far
     (λ x. subst (λ (bs : Blocks). Stops stop (slot_pages (pages_named bs c.args.depth c.args.namer) k (get_or refs k other).block))
-    (same_blocks b.tells b.size b.moment b.content b.may_leave b.settled b.settled_always b.faults b.last_fault s c.slots.store i.only x.0)
+    (same_blocks b s c.slots.store i.only x.0)
     (c.in_err-list_slot.ensures.lists (
       x.0,
-      λ m e. each_below_on b.tells b.size b.moment b.content b.may_leave b.settled b.settled_always b.faults b.last_fault s c.slots.store i.only x.0 m
+      λ m e. each_below_on b s c.slots.store i.only x.0 m
           (x.1 k m (slot_names refs k other m low e)),
     ))))
 
@@ -210,9 +210,9 @@ list_slots-returns-in_err-list_slot-clause-stopped g t c = λ told each h is.
     let p = err_from_is_err_and c.from_residual.result c.from_residual.ensures.1 in
     let low : k < length refs = Prim.omega (arith, c.type_inv.refs, c.slots-test.true) in
     let one : c.in_err-list_slot.field-0.0 ≡ ListingRefused.ReadFault h = cc in
-    stopped_since b.tells b.size b.moment b.content b.may_leave b.settled b.settled_always b.faults b.last_fault s c.slots.store c.list_slot.new.store h i.only
+    stopped_since b s c.slots.store c.list_slot.new.store h i.only
     (c.in_err-list_slot.ensures.stopped told
-    (λ m e. each_open_on b.tells b.size b.moment b.content b.may_leave b.settled b.settled_always b.faults b.last_fault s c.slots.store i.only told m (each k m (slot_names refs k other m low e)))
+    (λ m e. each_open_on b s c.slots.store i.only told m (each k m (slot_names refs k other m low e)))
     h (ap Err one))
 
 pub list_slots-returns-in_err-list_slot-clause-unread :
@@ -221,7 +221,7 @@ list_slots-returns-in_err-list_slot-clause-unread g t c = λ h is.
     let b = g.B.Blocks in
     let p = err_from_is_err_and c.from_residual.result c.from_residual.ensures.1 in
     let one : c.in_err-list_slot.field-0.0 ≡ ListingRefused.ReadFault h = cc in
-    unread_since b.tells b.size b.moment b.content b.may_leave b.settled b.settled_always b.faults b.last_fault c.args.store.now c.slots.store c.list_slot.new.store h
+    unread_since b c.args.store.now c.slots.store c.list_slot.new.store h
     c.slots.invariant.only (c.in_err-list_slot.ensures.unread h (ap Err one))
 
 pub list_slots-slots-preserved : goal.list_slots-slots-preserved
@@ -240,14 +240,14 @@ list_slots-slots-preserved g t c =
     (slot_pages (pages_named (blocks_of b.content b.size s) c.args.depth c.args.namer) k (get_or refs k other).block)
     (λ x. (
       x.0,
-      λ m e. each_below_on b.tells b.size b.moment b.content b.may_leave b.settled b.settled_always b.faults b.last_fault s c.slots.store i.only x.0 m
+      λ m e. each_below_on b s c.slots.store i.only x.0 m
           (x.1 k m (slot_names refs k other m low e)),
     ))
     (λ x. ap (λ (bs : Blocks). slot_pages (pages_named bs c.args.depth c.args.namer) k (get_or refs k other).block)
-    (same_blocks b.tells b.size b.moment b.content b.may_leave b.settled b.settled_always b.faults b.last_fault s c.slots.store i.only x.0))
+    (same_blocks b s c.slots.store i.only x.0))
     c.in_ok-list_slot.ensures.lists in
     record {
-      only = read_on b.tells b.size b.moment b.content b.may_leave b.settled b.settled_always b.faults b.last_fault s c.slots.store c.list_slot.new.store i.only c.in_ok-list_slot.ensures.only;
+      only = read_on b s c.slots.store c.list_slot.new.store i.only c.in_ok-list_slot.ensures.only;
       grows = grows_on c.args.out.now.items c.slots.out.items c.list_slot.new.out.items i.grows c.in_ok-list_slot.ensures.grows;
       far = slots_on {X = Unit {0}} told (pages_named (blocks_of b.content b.size s) c.args.depth c.args.namer) refs c.args.path.now c.args.out.now.items c.slots.out.items c.list_slot.new.out.items k other one tt low
           i.far refl here;

@@ -18,7 +18,7 @@ decreases-list_slot g l = 3 * l.depth + 1
 
 abbrev pub invariant-list_slots-slots : goal.invariant-list_slots-slots
 invariant-list_slots-slots g l = let b = g.B.Blocks in record {
-  only : OnlyRead b.tells b.size b.moment b.content b.may_leave b.settled b.settled_always b.faults b.last_fault l.fn.store l.store;
+  only : OnlyRead b l.fn.store l.store;
   grows : Grows l.fn.out.items l.out.items;
   far : SlotsListed (b.tells × EachBelowSlots (b.settled l.fn.store) (pages_of (b.content l.fn.store)) l.fn.refs) (pages_named (blocks_of b.content b.size l.fn.store) l.fn.depth l.fn.namer)
       l.fn.refs l.fn.path l.fn.out.items l.out.items l.k;

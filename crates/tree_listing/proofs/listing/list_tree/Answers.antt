@@ -50,7 +50,7 @@ returns-in_err-page-clause-stopped g c = λ told tree holds readable h is.
 pub returns-clause-only : goal.returns-clause-only
 returns-clause-only g c =
     let b = g.B.Blocks in
-    read_on b.tells b.size b.moment b.content b.may_leave b.settled b.settled_always b.faults b.last_fault c.args.store.now c.root_in.new.store c.list_page.new.store
+    read_on b c.args.store.now c.root_in.new.store c.list_page.new.store
     c.in_ok-page.ensures.only c.list_page.ensures.only
 
 pub returns-clause-lines : goal.returns-clause-lines
@@ -71,12 +71,12 @@ returns-clause-text g c = λ told tree holds readable.
     let walked = walked_root (blocks_of b.content b.size s) root tree holds readable.low in
     let found : root_in (blocks_of b.content b.size s) root ≡ Ok page = first.found told (readable.settled_each [] root refl) in
     let one : walked.page ≡ page = ok_is (sym walked.read ∙ found) in
-    let same = same_blocks b.tells b.size b.moment b.content b.may_leave b.settled b.settled_always b.faults b.last_fault s s1 first.only told in
+    let same = same_blocks b s s1 first.only told in
     let lists = subst (λ (q : List ℕ). Lists IsRising (b.tells × EachBelowSlots (b.settled s1) (pages_of (b.content s1)) page.refs) q c.args.out.now.items c.list_page.new.out.items
     c.list_page.result (pages_from (blocks_of b.content b.size s1) 7 root page)) c.root.ensures c.list_page.ensures.lists in
     lists_text _ c.args.out.now.items c.list_page.new.out.items c.list_page.result (pages_from (blocks_of b.content b.size s1) 7 root page) tree lists (
       told,
-      λ slot m named. each_below_on b.tells b.size b.moment b.content b.may_leave b.settled b.settled_always b.faults b.last_fault s s1 first.only told m
+      λ slot m named. each_below_on b s s1 first.only told m
           (each_slot (b.settled s) (pages_of (b.content s)) root page (root_reads (blocks_of b.content b.size s) root page found) readable.settled_each slot m named),
     )
     (ap (λ (bs : Blocks). pages_from bs 7 root page) same ∙ ap (pages_from (blocks_of b.content b.size s) 7 root) (sym one) ∙ walked.pages)
@@ -90,13 +90,13 @@ returns-clause-bad g c = λ told each block why is.
     let page = c.in_ok-page.page in
     let first = c.in_ok-page.ensures in
     let found : root_in (blocks_of b.content b.size s) root ≡ Ok page = first.found told (each [] root refl) in
-    let same = same_blocks b.tells b.size b.moment b.content b.may_leave b.settled b.settled_always b.faults b.last_fault s s1 first.only told in
+    let same = same_blocks b s s1 first.only told in
     first_fault (blocks_of b.content b.size s) root (record { block = block; why = why })
     (version_is (blocks_of b.content b.size s) root page found
     ∙ ap (λ (bs : Blocks). pages_from bs 7 root page) (sym same)
     ∙ lists_bad _ _ c.args.out.now.items c.list_page.new.out.items c.list_page.result (pages_from (blocks_of b.content b.size s1) 7 root page) block why c.list_page.ensures.lists (
       told,
-      λ slot m named. each_below_on b.tells b.size b.moment b.content b.may_leave b.settled b.settled_always b.faults b.last_fault s s1 first.only told m
+      λ slot m named. each_below_on b s s1 first.only told m
           (each_slot (b.settled s) (pages_of (b.content s)) root page (root_reads (blocks_of b.content b.size s) root page found) each slot m named),
     )
     is)
@@ -112,14 +112,14 @@ returns-clause-stopped g c = λ told tree holds readable h is.
     let found : root_in (blocks_of b.content b.size s) root ≡ Ok page = first.found told (readable.settled_each [] root refl) in
     let each_open : EachBelow (IsOpen (b.settled s) (b.content s)) (pages_of (b.content s)) root = λ path n e.
     let x = holds.page path n e in record { settled_here = readable.settled_each path n e; some = has_content (b.content s) n x.0 x.1 } in
-    stopped_since b.tells b.size b.moment b.content b.may_leave b.settled b.settled_always b.faults b.last_fault s s1 c.list_page.new.store h first.only
+    stopped_since b s s1 c.list_page.new.store h first.only
     (c.list_page.ensures.stopped told
-    (λ slot m named. each_open_on b.tells b.size b.moment b.content b.may_leave b.settled b.settled_always b.faults b.last_fault s s1 first.only told m
+    (λ slot m named. each_open_on b s s1 first.only told m
     (each_slot (IsOpen (b.settled s) (b.content s)) (pages_of (b.content s)) root page (root_reads (blocks_of b.content b.size s) root page found) each_open slot m named))
     h is)
 
 pub returns-clause-unread : goal.returns-clause-unread
 returns-clause-unread g c = λ h is.
     let b = g.B.Blocks in
-    unread_since b.tells b.size b.moment b.content b.may_leave b.settled b.settled_always b.faults b.last_fault c.args.store.now c.root_in.new.store c.list_page.new.store h
+    unread_since b c.args.store.now c.root_in.new.store c.list_page.new.store h
     c.in_ok-page.ensures.only (c.list_page.ensures.unread h is)

@@ -11,7 +11,7 @@ use Rattle.tree_listing.proofs.reading.block_named.Goals as goal
 pub returns-then-get-blocks-clause-only : goal.returns-then-get-blocks-clause-only
 returns-then-get-blocks-clause-only g c =
     let b = g.B.Blocks in
-    none_read b.tells b.size b.moment b.content b.may_leave b.settled b.settled_always b.faults b.last_fault c.args.store.now (g.met.B.Blocks.clock c.args.store.now)
+    none_read b c.args.store.now (g.met.B.Blocks.clock c.args.store.now)
 
 -- a half's fault is one of the read
 unread_is : (n : ℕ) (fault : PairFault) (h : Half) → refused_read n fault ≡ ReadFault h → fault ≡ Unread h
