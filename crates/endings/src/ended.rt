@@ -1,4 +1,5 @@
 // What comes back from a call.
+ghost use Rattle.std.specs.Prelude.{◌≡◌};
 ghost use Rattle.endings.specs.Noted.{IsNothingNoted};
 
 use crate::status::Status;
@@ -13,12 +14,20 @@ pub struct Ended<V> {
     pub journal: Journal,
 }
 
-/// The journal of a call that did nothing to the store.
-pub fn empty_journal(alloc: Global) -> Journal
-    ensures { IsNothingNoted result }
-{
-    Journal {
-        entries: Vec::new(alloc),
-        doubt: None,
+impl<V> Ended<V> {
+    /// A call that ended so, and did nothing to the store.
+    pub fn without_journal(alloc: Global, status: Status, drives: V) -> Ended<V>
+        ensures status { result.status ≡ status }
+        ensures drives { result.drives ≡ drives }
+        ensures noted { IsNothingNoted result.journal }
+    {
+        Ended {
+            status,
+            drives,
+            journal: Journal {
+                entries: Vec::new(alloc),
+                doubt: None,
+            },
+        }
     }
 }

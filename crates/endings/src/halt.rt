@@ -1,8 +1,7 @@
 // How calls end that did not do all.
 ghost use Rattle.std.specs.Prelude.{◌≡◌, ◌⊎◌, ◌≤◌, IfOk, string_bytes};
-ghost use Rattle.afs_base.specs.Causes.{Rose};
 ghost use Rattle.drives.specs.declared.device.Half.{Half};
-ghost use Rattle.endings.specs.Printing.{HaltEnds, Prints};
+ghost use Rattle.endings.specs.Printing.{HaltsOn, PrintsOn};
 ghost use Rattle.endings.specs.Texts.{bad_store_text, drive_text, memory_text, usage_text, why_word};
 
 use crate::put::put_line;
@@ -16,7 +15,7 @@ use std::alloc::{AllocError, Global};
 /// Ends a call whose words are no command.
 pub fn end_usage<K: Sink>(out: &mut K) -> Status
     ensures status { result ≡ Status.Usage }
-    ensures prints { Prints (K.written out.old) (K.written out.new) (Rose (K.faults out.old) (K.faults out.new)) usage_text }
+    ensures prints { PrintsOn K.written K.faults out.old out.new usage_text }
     ensures later { K.faults out.old ≤ K.faults out.new }
 {
     put_line(out, b"usage\n");
@@ -26,7 +25,7 @@ pub fn end_usage<K: Sink>(out: &mut K) -> Status
 /// Ends a call for want of memory.
 pub fn end_memory<K: Sink>(out: &mut K) -> Status
     ensures status { result ≡ Status.Memory }
-    ensures prints { Prints (K.written out.old) (K.written out.new) (Rose (K.faults out.old) (K.faults out.new)) memory_text }
+    ensures prints { PrintsOn K.written K.faults out.old out.new memory_text }
     ensures later { K.faults out.old ≤ K.faults out.new }
 {
     put_line(out, b"memory\n");
@@ -46,7 +45,7 @@ pub fn drive_line(half: Half) -> &'static [u8]
 /// Ends a call that this half stopped.
 pub fn end_drive<K: Sink>(out: &mut K, half: Half) -> Status
     ensures status { result ≡ Status.DriveFault }
-    ensures prints { Prints (K.written out.old) (K.written out.new) (Rose (K.faults out.old) (K.faults out.new)) (drive_text half) }
+    ensures prints { PrintsOn K.written K.faults out.old out.new (drive_text half) }
     ensures later { K.faults out.old ≤ K.faults out.new }
 {
     put_line(out, drive_line(half));
@@ -81,7 +80,8 @@ pub fn why_word(why: Why) -> &'static str
 
 /// The line that names a block of a store that is not lawful, and why.
 fn bad_store_line(alloc: Global, block: BlockNo, why: Why) -> Result<String, AllocError>
-    ensures { IfOk result (λ line. string_bytes line ≡ bad_store_text (record { block = block; why = why })) }
+    ensures { IfOk result
+        (λ line. string_bytes line ≡ bad_store_text (record { block = block; why = why })) }
 {
     let number = block.get();
     let word = why_word(why);
@@ -90,7 +90,8 @@ fn bad_store_line(alloc: Global, block: BlockNo, why: Why) -> Result<String, All
 
 /// Ends a call over a store that is not lawful.
 pub fn end_bad_store<K: Sink>(alloc: Global, out: &mut K, block: BlockNo, why: Why) -> Status
-    ensures ends { HaltEnds (K.written out.old) (K.written out.new) (Rose (K.faults out.old) (K.faults out.new)) (bad_store_text (record { block = block; why = why })) Status.BadStore result }
+    ensures ends { HaltsOn K.written K.faults out.old out.new
+        (bad_store_text (record { block = block; why = why })) Status.BadStore result }
     ensures later { K.faults out.old ≤ K.faults out.new }
 {
     match bad_store_line(alloc, block, why) {

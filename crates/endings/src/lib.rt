@@ -8,7 +8,7 @@ mod status;
 #[cfg(test)]
 mod tests;
 
-pub use ended::{Ended, empty_journal};
+pub use ended::Ended;
 pub use halt::{drive_line, end_bad_store, end_drive, end_memory, end_usage, why_word};
 pub use put::{finish, print_text, put_line, put_text};
 pub use status::Status;

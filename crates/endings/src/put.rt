@@ -1,9 +1,9 @@
 // Printing lines.
 ghost use Rattle.std.specs.Prelude.{◌≡◌, ℕ, ◌<◌, ◌≤◌, List, Option, OnOk, OnErr, length, take, drop};
 ghost use Rattle.std.specs.Io.KnownBytes.{Appends};
-ghost use Rattle.afs_base.specs.Causes.{HasCause, Rose};
+ghost use Rattle.afs_base.specs.Causes.{HasCause};
 ghost use Rattle.script_text.specs.Front.{AppendsFront};
-ghost use Rattle.endings.specs.Printing.{FinishEnds, IsFirstLine, Prints};
+ghost use Rattle.endings.specs.Printing.{FinishesOn, IsFirstLine, PrintsOn};
 
 use crate::status::Status;
 use afs_base::Failed;
@@ -38,7 +38,7 @@ pub fn put_text<K: Sink>(out: &mut K, text: &[u8]) -> Result<(), Failed>
 
 /// Prints a line for a status, which stays where the line is refused.
 pub fn put_line<K: Sink>(out: &mut K, line: &[u8])
-    ensures prints { Prints (K.written out.old) (K.written out.new) (Rose (K.faults out.old) (K.faults out.new)) line.now }
+    ensures prints { PrintsOn K.written K.faults out.old out.new line.now }
     ensures later { K.faults out.old ≤ K.faults out.new }
 {
     match out.put(line) {
@@ -49,7 +49,7 @@ pub fn put_line<K: Sink>(out: &mut K, line: &[u8])
 
 /// Prints a text for a status, which stays where a line is refused.
 pub fn print_text<K: Sink>(out: &mut K, text: &[u8])
-    ensures prints { Prints (K.written out.old) (K.written out.new) (Rose (K.faults out.old) (K.faults out.new)) text.now }
+    ensures prints { PrintsOn K.written K.faults out.old out.new text.now }
     ensures later { K.faults out.old ≤ K.faults out.new }
 {
     match put_text(out, text) {
@@ -60,7 +60,8 @@ pub fn print_text<K: Sink>(out: &mut K, text: &[u8])
 
 /// Prints what a call that has done all is to print, and says how it ends.
 pub fn finish<K: Sink>(out: &mut K, text: &[u8]) -> Status
-    ensures ends { FinishEnds (K.written out.old) (K.written out.new) (Rose (K.faults out.old) (K.faults out.new)) text.now result }
+    ensures ends { FinishesOn K.written K.faults out.old out.new text.now result }
+    ensures kept { result ≡ Status.Success → K.faults out.new ≡ K.faults out.old }
     ensures later { K.faults out.old ≤ K.faults out.new }
 {
     match put_text(out, text) {

@@ -22,5 +22,5 @@ lines-preserved g c =
     = (λ i. c.split_at.ensures.front i ++ c.split_at.ensures.back i) ∙ c.first_line_len.ensures.line.parts in
     record {
       printed = printed_more old mid new c.split_at.result.0.now c.split_at.result.1.now c.lines.rest.now c.args.text.now c.lines.invariant.printed parts c.in_ok-put.ensures.ok;
-      later = omega (arith, c.lines.invariant.later, c.put.ensures.cause.later);
+      kept = c.in_ok-put.ensures.cause.unfailed ∙ c.lines.invariant.kept;
     }
