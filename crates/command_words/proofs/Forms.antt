@@ -1,12 +1,16 @@
--- The words of a command are one, three or four.
-use Rattle.std.proofs.Common.{◌≡◌, ◌⊎◌, ℕ, ◌<◌, ◌≤◌, List, [], ◌∷◌, length, get_or, Option, Some, None, IfSome, String, Global, subst, ap, inl, inr, arith}
+-- The words of a call are one, three or four.
+use Rattle.std.proofs.Common.{◌≡◌, ◌⊎◌, ℕ, ◌<◌, ◌≤◌, List, [], ◌∷◌, length, get_or, Option, Some, None, IfSome, String, Global, subst, ap, ◌∙◌, ◌^◌, codes, inl, inr, arith}
 use Rattle.std.specs.Prelude.{string_bytes}
-use Rattle.command_words.specs.Commands.{AreWords, IsWithin, bytes_of}
-use Rattle.command_words.specs.declared.command.Command.{Command}
-use Rattle.command_words.specs.declared.command.Command.TheVariants.{Format, Play, Show, Check, Cap}
+use Rattle.std.specs.Option.{option_map}
+use Rattle.new_store.specs.declared.store.NewStore.{NewStore}
+use Rattle.script_text.specs.Says.{IsNumber, IsNumberIn}
+use Rattle.command_words.specs.Words.{AreNumbersOf, AreWords, IsWithin, bytes_of}
+use Rattle.command_words.proofs.Numbers.{only_read}
+use Rattle.command_words.specs.declared.call.Call.{Call}
+use Rattle.command_words.specs.declared.call.Call.TheVariants.{Format, Play, Show, Check, Cap}
 
--- a command has one, three or four words
-pub count_of : (c : Command) (words : List (List ℕ)) → AreWords c words → (length words ≡ 1) ⊎ ((length words ≡ 3) ⊎ (length words ≡ 4))
+-- a call has one, three or four words
+pub count_of : (c : Call) (words : List (List ℕ)) → AreWords c words → (length words ≡ 1) ⊎ ((length words ≡ 3) ⊎ (length words ≡ 4))
 count_of (Format store) words (key, files, blocks, form, numbers) = inr (inr (ap (λ ws. length ws) form))
 count_of Play words form = inl (ap (λ ws. length ws) form)
 count_of Show words form = inl (ap (λ ws. length ws) form)
@@ -14,15 +18,58 @@ count_of Check words form = inl (ap (λ ws. length ws) form)
 count_of (Cap object rights) words (o, r, form, object_word, rights_word) = inr (inl (ap (λ ws. length ws) form))
 
 -- what is named by these words is named by those that are the same
-pub named_along : (found : Option Command) (words all : List (List ℕ)) (blocks : ℕ) → words ≡ all
-    → IfSome found (λ c. AreWords c words × IsWithin blocks c) → IfSome found (λ c. AreWords c all × IsWithin blocks c)
-named_along found words all blocks same named = subst (λ ws. IfSome found (λ c. AreWords c ws × IsWithin blocks c)) same named
+pub named_along : (found : Option Call) (words all : List (List ℕ)) (scripts blocks : ℕ) → words ≡ all
+    → IfSome found (λ c. AreWords c words × IsWithin scripts blocks c) → IfSome found (λ c. AreWords c all × IsWithin scripts blocks c)
+named_along found words all scripts blocks same named = subst (λ ws. IfSome found (λ c. AreWords c ws × IsWithin scripts blocks c)) same named
+
+-- what is in its range with all scripts is so with these
+pub within_scripts : (found : Option Call) (words : List (List ℕ)) (scripts blocks : ℕ)
+    → IfSome found (λ c. AreWords c words × ((n : ℕ) → IsWithin n blocks c)) → IfSome found (λ c. AreWords c words × IsWithin scripts blocks c)
+within_scripts None words scripts blocks named = named
+within_scripts (Some c) words scripts blocks named = (named.0, named.1 scripts)
 
 -- what is in its range over all drives is so over these
-pub within_these : (found : Option Command) (words : List (List ℕ)) (blocks : ℕ)
-    → IfSome found (λ c. AreWords c words × ((b : ℕ) → IsWithin b c)) → IfSome found (λ c. AreWords c words × IsWithin blocks c)
-within_these None words blocks named = named
-within_these (Some c) words blocks named = (named.0, named.1 blocks)
+pub within_these : (found : Option Call) (words : List (List ℕ)) (scripts blocks : ℕ)
+    → IfSome found (λ c. AreWords c words × ((n b : ℕ) → IsWithin n b c)) → IfSome found (λ c. AreWords c words × IsWithin scripts blocks c)
+within_these None words scripts blocks named = named
+within_these (Some c) words scripts blocks named = (named.0, named.1 scripts blocks)
+
+-- the only store of three words is the only call of the words with `format` before them
+pub format_only : (found : Option NewStore) (key files blocks : List ℕ) (drive_blocks : ℕ)
+    → ((s : NewStore) → AreNumbersOf key files blocks s → (n : ℕ) → IsWithin n drive_blocks (Format s) → found ≡ Some s)
+    → (c : Call) → AreWords c (codes "format" ∷ key ∷ files ∷ blocks ∷ []) → (n : ℕ) → IsWithin n drive_blocks c → option_map Format found ≡ Some c
+format_only found key files blocks drive_blocks only (Format store) (k, f, b, form, numbers) n within =
+    let first : key ≡ k = cc in
+    let second : files ≡ f = cc in
+    let third : blocks ≡ b = cc in
+    let these : AreNumbersOf key files blocks store = record {
+      key_word = first ∙ numbers.key_word;
+      files_word = second ∙ numbers.files_word;
+      blocks_word = third ∙ numbers.blocks_word;
+    } in
+    ap (option_map Format) (only store these n within)
+format_only found key files blocks drive_blocks only Play form n within = cc
+format_only found key files blocks drive_blocks only Show form n within = cc
+format_only found key files blocks drive_blocks only Check form n within = cc
+format_only found key files blocks drive_blocks only (Cap object rights) (o, r, form, first, second) n within = cc
+
+-- two numbers are those of the only call of the words with `cap` before them
+pub cap_only : (object rights : List ℕ) (most_object most_rights o r : ℕ) → most_object < 2 ^ 64 → most_rights < 2 ^ 64
+    → IsNumberIn 1 most_object object o → IsNumberIn 0 most_rights rights r
+    → (c : Call) → AreWords c (codes "cap" ∷ object ∷ rights ∷ []) → (n b : ℕ) → IsWithin n b c
+    → (let made : Option Call = Some (Cap o r) in made) ≡ Some c
+cap_only object rights mo mr o r fits also_fits read also (Format store) (k, f, b, form, numbers) n blocks within = cc
+cap_only object rights mo mr o r fits also_fits read also Play form n b within = cc
+cap_only object rights mo mr o r fits also_fits read also Show form n b within = cc
+cap_only object rights mo mr o r fits also_fits read also Check form n b within = cc
+cap_only object rights mo mr o r fits also_fits read also (Cap p q) (x, y, form, first, second) n b within =
+    let one : object ≡ x = cc in
+    let two : rights ≡ y = cc in
+    let most = within.1 in
+    let more = within.2 in
+    let same = only_read 1 mo object o p fits read (one ∙ first) (omega arith) in
+    let alike = only_read 0 mr rights r q also_fits also (two ∙ second) (omega arith) in
+    ap (λ v. Some (Cap v r)) same ∙ ap (λ v. Some (Cap p v)) alike
 
 -- the bytes of three words
 pub three_words : (words : List (String Global)) (a b c : String Global) → 3 ≤ length words → length words < 4

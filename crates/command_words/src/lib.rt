@@ -1,10 +1,9 @@
-//! The commands of the program, read from its words.
+//! The calls of the program, read from its words.
 #![tactic(auto)]
 
-mod command;
-mod number;
+mod call;
 
-pub use command::{Command, command_of};
+pub use call::{Call, call_of};
 
 #[cfg(test)]
 mod tests;

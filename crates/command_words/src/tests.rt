@@ -5,16 +5,16 @@ use crate::*;
 use std::alloc::{AllocError, Global};
 use std::test::*;
 
-/// The words of a command, and `usage` where there is none.
-fn shown(alloc: Global, command: Option<Command>) -> Result<String, AllocError> {
-    match command {
-        Some(Command::Format { store }) => {
+/// The words of a call, and `usage` where there is none.
+fn shown(alloc: Global, call: Option<Call>) -> Result<String, AllocError> {
+    match call {
+        Some(Call::Format { store }) => {
             format!(in alloc; "format {} {} {}", store.key, store.files, store.blocks)
         }
-        Some(Command::Play) => String::from_str(alloc, "play"),
-        Some(Command::Show) => String::from_str(alloc, "show"),
-        Some(Command::Check) => String::from_str(alloc, "check"),
-        Some(Command::Cap { object, rights }) => format!(in alloc; "cap {object} {rights}"),
+        Some(Call::Play) => String::from_str(alloc, "play"),
+        Some(Call::Show) => String::from_str(alloc, "show"),
+        Some(Call::Check) => String::from_str(alloc, "check"),
+        Some(Call::Cap { object, rights }) => format!(in alloc; "cap {object} {rights}"),
         None => String::from_str(alloc, "usage"),
     }
 }
@@ -31,7 +31,7 @@ fn words_of(alloc: Global, text: &str) -> Result<Vec<String>, AllocError> {
 /// What these words are shown as, with so many scripts and over drives of so many blocks.
 fn answer(alloc: Global, text: &str, scripts: usize, blocks: u32) -> Result<String, AllocError> {
     let words = words_of(alloc, text)?;
-    shown(alloc, command_of(&words, scripts, blocks))
+    shown(alloc, call_of(&words, scripts, blocks))
 }
 
 /// The words themselves where they are a command.
@@ -139,6 +139,6 @@ fn five_forms_are_commands_and_all_else_is_usage(rt: HostRuntime) -> Result<(), 
         );
     }
     let no_words = Vec::new(alloc);
-    assert!(rt; command_of(&no_words, 0, 64).is_none());
+    assert!(rt; call_of(&no_words, 0, 64).is_none());
     Ok(())
 }
