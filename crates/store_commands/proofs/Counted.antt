@@ -8,7 +8,8 @@ use Rattle.std.proofs.lemmas.Simd.{map-map}
 use Rattle.page_codec.specs.Values.{EntryValue, TableValue}
 use Rattle.page_codec.specs.Bounds.{has_generation}
 use Rattle.page_codec.specs.TableSpelling.{part_entries}
-use Rattle.tree_model.specs.States.{State, File, Version, group_of, is_live, is_used, numbers_below, table_blocks}
+use Rattle.tree_model.specs.States.{State, File, Version, group_of, is_live, is_used, table_blocks}
+use Rattle.tree_model.specs.Trees.{numbers_below}
 use Rattle.service_model.specs.Standing.{kept_blocks}
 use Rattle.store_model.specs.Laid.{LaidVersion, LaidFile, Node, last_laid}
 use Rattle.store_model.specs.Found.{LaidStore, file_in, laid, state_in, version_in}
@@ -17,7 +18,7 @@ use Rattle.store_model.proofs.LastVersions.{last_get}
 use Rattle.store_model.proofs.Lying.{Each}
 use Rattle.store_check.specs.Checked.{LikeTable}
 use Rattle.store_check.specs.Files.{kept_by, own_pages}
-use Rattle.version_chain.specs.declared.head.Head.{Head}
+use Rattle.afs_base.specs.declared.head.Head.{Head}
 use Rattle.recovery.specs.Opening.{head_of, heads_of}
 use Rattle.store_commands.specs.Counting.{blocks_of_table, counted_text, head_kept, head_versions, heads_kept, heads_live, heads_versions, used_parts}
 use Rattle.store_commands.specs.Texts.{check_text, counts_text, free_count, kept_count, live_count, version_count}

@@ -1,14 +1,15 @@
 -- How the ends of the commands are put together.
-use Rattle.std.proofs.Common.{◌≡◌, ◌⊎◌, inl, inr, ℕ, ◌+◌, ◌-◌, ◌^◌, min, List, length, Option, Result, Ok, refl, sym, ap, ◌∙◌, arith}
+use Rattle.std.proofs.Common.{◌≡◌, ◌⊎◌, inl, inr, ℕ, ◌+◌, ◌-◌, ◌^◌, min, List, length, Option, Result, Ok, Err, refl, sym, ap, ◌∙◌, arith}
 use Rattle.drives.specs.declared.device.Half.{Half}
 use Rattle.drives.specs.Faults.{HasFailed}
 use Rattle.page_codec.specs.Values.{TableValue}
 use Rattle.block_map.specs.declared.states.BlockState.{BlockState}
-use Rattle.version_chain.specs.declared.head.Head.{Head}
+use Rattle.afs_base.specs.declared.head.Head.{Head}
 use Rattle.tree_model.specs.States.{State}
 use Rattle.store_model.specs.Walk.{Refused}
 use Rattle.store_model.specs.Found.{found, state_in, state_of}
 use Rattle.recovery.specs.Opening.{IsBad, IsFailed, IsOpened, heads_of}
+use Rattle.recovery.specs.Rolling.{IsUnwritten}
 use Rattle.recovery.specs.declared.refused.OpenRefused.{OpenRefused}
 use Rattle.recovery.specs.declared.refused.OpenRefused.TheVariants.{ReadFault, WriteFault, BadStore as Unlawful, Memory as NoMemory}
 use Rattle.caps.specs.Tables.{seal_of}
@@ -47,6 +48,13 @@ write_failed faults faults_after last_after moment_after NoStore h failed = reco
         → (last_after h ≡ moment_after) ⊎ ((moment_after ≡ min (last_after h + 1) (2 ^ 64 - 1)) × NoStore)
     of (inl same) = inl same
     of (inr none) = absurd none.1
+
+-- no write failed where no half's write is the cause
+pub none_unwritten : (why : OpenRefused) → ((h : Half) → why ≡ WriteFault h → ⊥) → IsUnwritten {T = Unit {0}} (Err why)
+none_unwritten (ReadFault h) none = tt
+none_unwritten (WriteFault h) none = none h refl
+none_unwritten (Unlawful block why) none = tt
+none_unwritten NoMemory none = tt
 
 -- ---- a store that was not opened
 

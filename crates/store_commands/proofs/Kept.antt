@@ -3,7 +3,7 @@ use Rattle.std.proofs.Common.{◌≡◌, ◌==◌, ℕ, zero, suc, ◌-◌, ◌<
 use Rattle.std.specs.List.{AllByRecursion}
 use Rattle.page_codec.specs.declared.why.Why.TheVariants.{Member}
 use Rattle.page_codec.specs.Values.{MemberValue}
-use Rattle.draft_model.specs.Places.{Store, Holds, block_at, same}
+use Rattle.page_places.specs.Places.{Store, Holds, block_at, same}
 use Rattle.store_model.specs.Walk.{Blocks}
 use Rattle.store_model.specs.Laid.{Node, LaidVersion, LaidFile, block_in, page_in, last_laid}
 use Rattle.store_model.specs.Chains.{version_at, chain_from, chain_at}

@@ -8,3 +8,5 @@ pub mod Loops
 pub mod Kept
 pub mod Listed
 pub mod ShowEnds
+pub mod TextCalls
+pub mod FormatCalls

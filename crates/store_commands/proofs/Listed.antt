@@ -6,9 +6,8 @@ use Rattle.std.specs.Option.{option_and_then}
 use Rattle.std.proofs.lemmas.Grind.{flat_map-append}
 use Rattle.std.proofs.lemmas.Bool.Decides.{nat_tests}
 use Rattle.std.proofs.lemmas.List.{length-append}
-use Rattle.drives.specs.declared.device.Half.{Half}
 use Rattle.script_text.specs.ReplyText.{spaced}
-use Rattle.draft_model.specs.Places.{Store, Holds, block_at}
+use Rattle.page_places.specs.Places.{Store, Holds, block_at}
 use Rattle.tree_model.specs.Trees.{Tree}
 use Rattle.tree_model.specs.States.{File, Version, last_version, serials_of}
 use Rattle.store_model.specs.Laid.{LaidVersion, LaidFile, last_laid}
@@ -18,13 +17,14 @@ use Rattle.store_model.proofs.Chaining.{last_from}
 use Rattle.store_model.proofs.LastVersions.{last_get}
 use Rattle.store_model.proofs.Lying.{Each}
 use Rattle.store_check.specs.Files.{AllLie, FilesLie, kept_by}
+use Rattle.pair_store.specs.declared.store.Blocks.{Ghosts}
 use Rattle.store_check.specs.Since.{OnlyRead}
 use Rattle.recovery.specs.Opening.{head_of, heads_of}
 use Rattle.tree_listing.specs.TreeText.{tree_text}
 use Rattle.tree_listing.specs.Listing.{AreReadable}
 use Rattle.tree_listing.specs.Results.{AppendsTree, Gives}
 use Rattle.tree_listing.specs.declared.refused.ListingRefused.{ListingRefused}
-use Rattle.version_chain.specs.declared.head.Head.{Head}
+use Rattle.afs_base.specs.declared.head.Head.{Head}
 use Rattle.store_commands.specs.Showing.{head_line, head_serials, shown_file, shown_files, version_text}
 use Rattle.store_commands.specs.Shows.{AreObjects, IsHeadOf, IsObject}
 use Rattle.store_commands.proofs.Kept.{IsKept, last_kept}
@@ -203,23 +203,22 @@ told_end old new settled size store heads files k past h text =
 
 -- ---- reads leave what is told
 
-module _ {D : Type 0} (tells : Type 0) (size moment : D → ℕ) (content : D → ℕ → Option (List ℕ)) (may_leave : D → ℕ → (ℕ → Option (List ℕ)) → Type 0) (settled settled_always : D → ℕ → Type 0) (faults last_fault : D → Half → ℕ) where
-  abbrev Reads : D → D → Type 0
-  Reads a b = OnlyRead tells size moment content may_leave settled settled_always faults last_fault a b
-
-  same_pages : (a b : D) → Reads a b → tells → pages_of (content b) ≡ pages_of (content a)
+module _ {D : Type 0} (g : Ghosts D) where
+  same_pages : (a b : D) → OnlyRead g a b → g.tells → pages_of (g.content b) ≡ pages_of (g.content a)
   same_pages a b only told = λ i n. option_and_then page_of_block (only.same told n i)
 
-  readable_on : (a b : D) → Reads a b → tells → (root : ℕ) → AreReadable (settled a) (size a) (pages_of (content a)) root → AreReadable (settled b) (size b) (pages_of (content b)) root
+  readable_on : (a b : D) → OnlyRead g a b → g.tells → (root : ℕ) → AreReadable (g.settled a) (g.size a) (pages_of (g.content a)) root
+      → AreReadable (g.settled b) (g.size b) (pages_of (g.content b)) root
   readable_on a b only told root h = record {
     settled_each = λ path n e. (only.kept told n).1 (h.settled_each path n (back path n e));
     low = λ path n e. subst (λ (m : ℕ). n < m) (sym only.size_same) (h.low path n (back path n e));
   }
     where
-      back : (path : List ℕ) (n : ℕ) → block_at (pages_of (content b)) root path ≡ Some n → block_at (pages_of (content a)) root path ≡ Some n
+      back : (path : List ℕ) (n : ℕ) → block_at (pages_of (g.content b)) root path ≡ Some n → block_at (pages_of (g.content a)) root path ≡ Some n
       back path n e = ap (λ (s : Store). block_at s root path) (sym (same_pages a b only told)) ∙ e
 
-  pub object_on : (a b : D) → Reads a b → tells → (head : Option Head) (file : File) → IsObject (settled a) (size a) (pages_of (content a)) head file → IsObject (settled b) (size b) (pages_of (content b)) head file
+  pub object_on : (a b : D) → OnlyRead g a b → g.tells → (head : Option Head) (file : File) → IsObject (g.settled a) (g.size a) (pages_of (g.content a)) head file
+      → IsObject (g.settled b) (g.size b) (pages_of (g.content b)) head file
   object_on a b only told None file h = h
   object_on a b only told (Some head) file h = record {
     serials = h.serials;

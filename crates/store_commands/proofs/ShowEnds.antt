@@ -1,12 +1,13 @@
 -- How `show` ends is put together.
 use Rattle.std.proofs.Common.{◌≡◌, ◌⊎◌, inl, inr, ℕ, ◌+◌, ◌-◌, ◌^◌, ◌≤◌, min, nat_eq, Bool, true, false, List, Option, Result, Ok, refl, sym, ap, subst, ◌∙◌, eqb-true, arith}
 use Rattle.std.proofs.lemmas.Bool.{eqb-false}
+use Rattle.drives.specs.declared.device.Drives.{Ghosts as Device}
 use Rattle.drives.specs.declared.device.Half.{Half}
-use Rattle.drives.specs.Changes.{Changes, halves_seen}
+use Rattle.drives.specs.Changes.{Changes}
 use Rattle.drives.proofs.Composing.{goes_on, leaves_now}
 use Rattle.pair_store.specs.Blocks.{SameContents}
-use Rattle.pair_store.specs.Content.{ContentsLeft, content_of}
-use Rattle.pair_store.specs.Faults.{IsStopped, IsUnread}
+use Rattle.pair_store.specs.Content.{ContentsLeft}
+use Rattle.pair_store.specs.Faults.{IsStopped, IsUnread, LaterFaults}
 use Rattle.store_check.proofs.ReadOnly.{failed_before}
 use Rattle.store_model.specs.Walk.{Refused}
 use Rattle.store_model.specs.Found.{found}
@@ -18,7 +19,7 @@ use Rattle.endings.proofs.Commands.{command_drive, command_finished, command_mem
 use Rattle.tree_listing.specs.declared.refused.ListingRefused.{ListingRefused}
 use Rattle.tree_listing.specs.declared.refused.ListingRefused.TheVariants.{ReadFault, BadStore as Unlawful, Memory as NoMemory}
 use Rattle.tree_listing.specs.Results.{IsNoCause}
-use Rattle.store_commands.specs.Opening.{OnlyOpened}
+use Rattle.store_commands.specs.Opening.{OnlyOpened, contents_on}
 use Rattle.store_commands.specs.Showing.{show_text}
 use Rattle.store_commands.specs.Shows.{ListsAll, ShowEnds, UnlistedEnds}
 
@@ -33,7 +34,7 @@ fault_failed tells NoStore Empty faults mid after last moment h le unread stoppe
     of : (b : Bool) → nat_eq (last h) moment ≡ b → (last h ≡ moment) ⊎ ((moment ≡ min (last h + 1) (2 ^ 64 - 1)) × (tells → NoStore))
     of true e = inl (eqb-true (last h) moment e)
     of false e = elim unread.last [
-      | inl (at, is) ↦ inl (subst (λ (k : Half). last k ≡ moment) (sym at) is)
+      | inl is ↦ inl is
       | inr (at, stood, empty) ↦ inr (subst (λ (k : Half). moment ≡ min (last k + 1) (2 ^ 64 - 1)) (sym at) stood, λ told. absurd (eqb-false (last h) moment e (stopped told).last))
     ]
 
@@ -60,22 +61,20 @@ module _ (tells : Type 0) (before : Result State Refused) (failed : Half → Typ
       not_ends status stops.why stops.no_cause (λ h is. fault h (stops.failed h is) (λ t. stops.failed_last h is (known t).0.files (known t).2)) stops.ends
 
 -- reading what was opened changes nothing more
-module _ {V : Type 0} (tells : Type 0) (size moment : V → ℕ) (seen : V → Half → List ℕ) (may_leave : V → Half → ℕ → List ℕ → Type 0) (faults last_fault : V → Half → ℕ) where
-  abbrev content : V → ℕ → Option (List ℕ)
-  content v = content_of (halves_seen seen v)
+module _ {V : Type 0} (v : Device V) where
+  pub found_on : (a b c : V) → SameFound (v.size a) (contents_on v a) (contents_on v b) → SameContents (contents_on v b) (contents_on v c)
+      → SameFound (v.size a) (contents_on v a) (contents_on v c)
+  found_on a b c first second = ap (λ (f : ℕ → Option (List ℕ)). found f (v.size a)) (λ i n. second n i) ∙ first
 
-  pub found_on : (a b c : V) → SameFound (size a) (content a) (content b) → SameContents (content b) (content c) → SameFound (size a) (content a) (content c)
-  found_on a b c first second = ap (λ (f : ℕ → Option (List ℕ)). found f (size a)) (λ i n. second n i) ∙ first
-
-  pub read_opened : (a b c : V) → OnlyOpened tells size moment seen may_leave faults last_fault a b → (tells → SameContents (content b) (content c))
-      → Changes moment (ContentsLeft may_leave) b c SameContents → ((h : Half) → (faults b h ≤ faults c h) × (last_fault b h ≤ last_fault c h)) → size c ≡ size b
-      → OnlyOpened tells size moment seen may_leave faults last_fault a c
+  pub read_opened : (a b c : V) → OnlyOpened v a b → (v.tells → SameContents (contents_on v b) (contents_on v c))
+      → Changes v.moment (ContentsLeft v.may_leave) b c SameContents → LaterFaults (v.faults b) (v.faults c) (v.last_fault b) (v.last_fault c) → v.size c ≡ v.size b
+      → OnlyOpened v a c
   read_opened a b c first same images later size_same = record {
     same = λ told. found_on a b c (first.same told) (same told);
     images = λ told rest.
-        let R : (ℕ → Option (List ℕ)) → (ℕ → Option (List ℕ)) → Type 0 = SameFound (size a) in
-        goes_on moment (ContentsLeft may_leave) a b c R R SameContents R (first.images told rest) (leaves_now moment (ContentsLeft may_leave) a b R (first.images told rest)) images
-        (λ x y l r. r) (λ x y z l r s. ap (λ (f : ℕ → Option (List ℕ)). found f (size a)) (λ i n. s n i) ∙ r);
+        let R : (ℕ → Option (List ℕ)) → (ℕ → Option (List ℕ)) → Type 0 = SameFound (v.size a) in
+        goes_on v.moment (ContentsLeft v.may_leave) a b c R R SameContents R (first.images told rest) (leaves_now v.moment (ContentsLeft v.may_leave) a b R (first.images told rest)) images
+        (λ x y l r. r) (λ x y z l r s. ap (λ (f : ℕ → Option (List ℕ)). found f (v.size a)) (λ i n. s n i) ∙ r);
     later = λ h. let p = first.later h in let q = later h in (omega (arith, p, q), omega (arith, p, q));
     size_same = size_same ∙ first.size_same;
   }

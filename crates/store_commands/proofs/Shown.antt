@@ -8,7 +8,7 @@ use Rattle.std.proofs.lemmas.List.Sums.{sum_by-cons}
 use Rattle.page_codec.specs.Values.{EntryValue, TableValue}
 use Rattle.tree_model.specs.States.{State, File, Version, is_live}
 use Rattle.service_model.specs.Standing.{kept_blocks}
-use Rattle.version_chain.specs.declared.head.Head.{Head}
+use Rattle.afs_base.specs.declared.head.Head.{Head}
 use Rattle.store_commands.specs.Counting.{head_kept, head_versions}
 use Rattle.store_commands.proofs.Counted.{HasCounts}
 use Rattle.store_commands.proofs.Sums.{some_above}

@@ -4,8 +4,8 @@ use Rattle.std.specs.List.{list_any}
 use Rattle.page_codec.specs.Values.{TableValue}
 use Rattle.page_codec.specs.Bounds.{has_generation}
 use Rattle.page_codec.specs.TableSpelling.{part_entries}
-use Rattle.tree_model.specs.States.{numbers_below}
-use Rattle.version_chain.specs.declared.head.Head.{Head}
+use Rattle.tree_model.specs.Trees.{numbers_below}
+use Rattle.afs_base.specs.declared.head.Head.{Head}
 use Rattle.store_commands.specs.Texts.{counts_text}
 
 -- how many files there are

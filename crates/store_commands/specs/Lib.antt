@@ -4,3 +4,5 @@ pub mod Opening
 pub mod Counting
 pub mod Showing
 pub mod Shows
+pub mod Asked
+pub mod Calls

@@ -6,7 +6,7 @@ use Rattle.script_text.specs.ReplyText.{spaced}
 use Rattle.service_model.specs.Print.{file_text}
 use Rattle.tree_listing.specs.TreeText.{tree_text}
 use Rattle.tree_model.specs.States.{State, File, Version, last_version}
-use Rattle.version_chain.specs.declared.head.Head.{Head}
+use Rattle.afs_base.specs.declared.head.Head.{Head}
 
 -- the lines of the pages of a version, where there is one
 abbrev pub version_text : Option Version → List ℕ

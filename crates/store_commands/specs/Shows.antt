@@ -1,7 +1,7 @@
 -- Which files what is told of a store stands for, and how the listing of them ends.
 use Rattle.std.specs.Prelude.{◌≡◌, ◌⊎◌, ℕ, List, [], ◌∷◌, Option, Some, None}
 use Rattle.drives.specs.declared.device.Half.{Half}
-use Rattle.draft_model.specs.Places.{Store, Holds}
+use Rattle.page_places.specs.Places.{Store, Holds}
 use Rattle.endings.specs.Printing.{DoneEnds, HaltEnds, Prints}
 use Rattle.endings.specs.Texts.{bad_store_text, drive_text, memory_text}
 use Rattle.endings.specs.declared.status.Status.{Status}
@@ -11,7 +11,7 @@ use Rattle.tree_listing.specs.declared.refused.ListingRefused.TheVariants.{ReadF
 use Rattle.tree_listing.specs.Listing.{AreReadable}
 use Rattle.tree_listing.specs.Results.{IsNoCause}
 use Rattle.tree_model.specs.States.{File, Version, last_version, serials_of}
-use Rattle.version_chain.specs.declared.head.Head.{Head}
+use Rattle.afs_base.specs.declared.head.Head.{Head}
 use Rattle.store_commands.specs.Showing.{head_serials, shown_files}
 
 -- a live file: the serials are those that its head tells, and the blocks from the head's down can be read and hold the tree of its last version

@@ -1,32 +1,23 @@
 // The command that gives a capability of a file.
-ghost use Rattle.std.specs.Prelude.{◌≡◌, ◌⊎◌, ◌≤◌, IfOk, string_bytes};
+ghost use Rattle.std.specs.Prelude.{◌≡◌, ◌≤◌, IfOk};
 ghost use Rattle.afs_base.specs.Causes.{Rose};
-ghost use Rattle.drives.specs.declared.device.Half.{Half};
-ghost use Rattle.drives.specs.Changes.{halves_seen};
-ghost use Rattle.pair_store.specs.Content.{content_of};
-ghost use Rattle.store_model.specs.Found.{found};
-ghost use Rattle.recovery.specs.Opening.{IsFailed, IsNoStore};
 ghost use Rattle.caps.specs.Tables.{seal_of};
-ghost use Rattle.endings.specs.Commands.{CommandEnds, NothingFailed};
-ghost use Rattle.endings.specs.Faults.{HalfFailed};
-ghost use Rattle.endings.specs.Noted.{IsNothingNoted};
 ghost use Rattle.endings.specs.Printing.{DoneEnds};
-ghost use Rattle.endings.specs.Status.{IsDone};
-ghost use Rattle.store_commands.specs.Opening.{OnlyOpened};
+ghost use Rattle.store_commands.specs.Calls.{TextCall};
 ghost use Rattle.store_commands.specs.Texts.{cap_text, sealed_text};
 
-use crate::refused::end_refused;
+use crate::text::{Text, open_and_print};
 use caps::mint;
 use drives::Drives;
-use endings::{Ended, Status, empty_journal, end_memory, finish};
+use endings::{Ended, Status, end_memory, finish};
 use page_codec::Table;
-use recovery::open;
 use script_text::Sink;
 use std::alloc::{AllocError, Global};
 
 /// The line with the capability of an object with these rights, where it is live.
 fn cap_line(alloc: Global, table: &Table, object: u32, rights: u8) -> Result<Vec<u8>, AllocError>
-    ensures { IfOk result (λ line. line.items ≡ sealed_text object rights (seal_of table.now object)) }
+    ensures { IfOk result
+        (λ line. line.items ≡ sealed_text object rights (seal_of table.now object)) }
 {
     match mint(table, object, rights) {
         Some(cap) => {
@@ -42,8 +33,16 @@ fn cap_line(alloc: Global, table: &Table, object: u32, rights: u8) -> Result<Vec
 }
 
 /// Prints the capability, and says how the command ends.
-fn end_minted<K: Sink>(alloc: Global, table: &Table, object: u32, rights: u8, out: &mut K) -> Status
-    ensures ends { DoneEnds (K.written out.old) (K.written out.new) (Rose (K.faults out.old) (K.faults out.new)) (sealed_text object rights (seal_of table.now object)) result }
+pub(crate) fn end_minted<K: Sink>(
+    alloc: Global,
+    table: &Table,
+    object: u32,
+    rights: u8,
+    out: &mut K,
+) -> Status
+    ensures ends { DoneEnds (K.written out.old) (K.written out.new)
+        (Rose (K.faults out.old) (K.faults out.new))
+        (sealed_text object rights (seal_of table.now object)) result }
     ensures later { K.faults out.old ≤ K.faults out.new }
 {
     match cap_line(alloc, table, object, rights) {
@@ -61,33 +60,7 @@ pub fn afs_cap<V: Drives, K: Sink>(
     rights: u8,
     out: &mut K,
 ) -> Ended<V>
-    ensures ends { CommandEnds V.tells (found (content_of (halves_seen V.seen drives)) (V.size drives))
-        (IsFailed (V.faults drives) (V.faults result.drives) (V.last_fault result.drives) (V.moment result.drives)
-        (V.tells → IsNoStore (content_of (halves_seen V.seen drives)) (V.size drives)))
-        (cap_text object rights) (K.written out.old) (K.written out.new) (Rose (K.faults out.old) (K.faults out.new)) result.status }
-    // Where there is a store and nothing failed all is done, but for want of memory.
-    ensures complete { V.tells → NothingFailed (found (content_of (halves_seen V.seen drives)) (V.size drives)) (λ h. HalfFailed V.moment V.faults h drives result.drives)
-        (Rose (K.faults out.old) (K.faults out.new)) → IsDone result.status }
-    ensures kept { OnlyOpened V.tells V.size V.moment V.seen V.may_leave V.faults V.last_fault drives result.drives }
-    ensures noted { IsNothingNoted result.journal }
-    ensures sink_later { K.faults out.old ≤ K.faults out.new }
+    ensures { TextCall V.Drives K.Sink (cap_text object rights) drives out.old result out.new }
 {
-    match open(alloc, drives) {
-        Ok(opened) => {
-            let status = end_minted(alloc, &opened.table, object, rights, out);
-            Ended {
-                status,
-                drives: opened.pair.into_drives(),
-                journal: empty_journal(alloc),
-            }
-        }
-        Err(e) => {
-            let status = end_refused(alloc, out, e.why);
-            Ended {
-                status,
-                drives: e.drives,
-                journal: empty_journal(alloc),
-            }
-        }
-    }
+    open_and_print(alloc, drives, Text::Cap { object, rights }, out)
 }

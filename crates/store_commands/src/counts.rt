@@ -5,9 +5,9 @@ ghost use Rattle.page_codec.specs.Bounds.{has_generation};
 ghost use Rattle.page_codec.specs.TableSpelling.{part_entries};
 ghost use Rattle.store_commands.specs.Counting.{blocks_of_table, counted_text, head_kept, head_versions, heads_kept, heads_live, heads_versions, used_parts};
 
+use afs_base::Head;
 use page_codec::{PART_ENTRIES, Table, TableEntry};
 use std::alloc::{AllocError, Global};
-use version_chain::Head;
 
 /// How many files there are.
 fn count_live(heads: &[Option<Head>]) -> usize

@@ -1,22 +1,11 @@
 // The command that makes a new store.
-ghost use Rattle.std.specs.Prelude.{◌≡◌, ◌⊎◌, ℕ, ◌≤◌, List, Option, IfOk};
-ghost use Rattle.afs_base.specs.Causes.{Rose};
-ghost use Rattle.drives.specs.declared.device.Half.{Half};
-ghost use Rattle.drives.specs.Changes.{Changes, IsAtRest, halves_seen};
-ghost use Rattle.pair_store.specs.Content.{ContentsLeft, content_of};
-ghost use Rattle.pair_store.specs.Faults.{IsStopped};
-ghost use Rattle.store_model.specs.Found.{found};
-ghost use Rattle.new_store.specs.Formatting.{SameBeyond};
-ghost use Rattle.new_store.specs.Fresh.{StandsFor};
-ghost use Rattle.new_store.specs.Layout.{HasNewStore};
-ghost use Rattle.endings.specs.Faults.{HalfFailed};
-ghost use Rattle.endings.specs.Noted.{IsNothingNoted};
-ghost use Rattle.endings.specs.Status.{IsDone};
-ghost use Rattle.store_commands.specs.Formatting.{FormatEnds, IsMade};
+ghost use Rattle.std.specs.Prelude.{◌≡◌, ◌≤◌, IfOk};
+ghost use Rattle.new_store.specs.Sizes.{IsInRange};
+ghost use Rattle.store_commands.specs.Calls.{FormatCall, FormatsNew};
 ghost use Rattle.store_commands.specs.Texts.{new_files_text};
 
 use drives::Drives;
-use endings::{Ended, Status, empty_journal, end_drive, end_memory, finish};
+use endings::{Ended, Status, end_drive, end_memory, finish};
 use new_store::{NewStore, format};
 use script_text::Sink;
 use std::alloc::{AllocError, Global};
@@ -35,7 +24,7 @@ fn new_files_text(alloc: Global, files: u32) -> Result<Vec<u8>, AllocError>
     Ok(text)
 }
 
-/// Makes the store, and prints the text of its files.
+/// Makes the store, and prints the text of its files. What was made is there after every crash.
 fn make_store<V: Drives, K: Sink>(
     alloc: Global,
     drives: V,
@@ -45,77 +34,44 @@ fn make_store<V: Drives, K: Sink>(
 ) -> Ended<V>
     requires fits { store.now.blocks ≤ V.size drives }
     requires lines { text.now ≡ new_files_text store.now.files }
-    ensures ends { FormatEnds store.now V.tells (found (content_of (halves_seen V.seen result.drives)) (V.size drives))
-        (IsStopped (V.faults drives) (V.faults result.drives) (V.last_fault result.drives) (V.moment result.drives))
-        (K.written out.old) (K.written out.new) (Rose (K.faults out.old) (K.faults out.new)) result.status }
-    ensures stands { V.tells → IsAtRest V.seen V.moment V.may_leave drives
-        → Changes V.moment (ContentsLeft V.may_leave) drives result.drives (StandsFor store.now (V.size drives)) }
-    ensures beyond { V.tells → SameBeyond store.now.files (content_of (halves_seen V.seen drives)) (content_of (halves_seen V.seen result.drives)) }
-    ensures lasts { V.tells → IsMade result.status → (f : ℕ → Option (List ℕ)) → ContentsLeft V.may_leave result.drives (V.moment result.drives) f → HasNewStore store.now f }
+    ensures call { FormatCall V.Drives K.Sink store.now drives out.old result out.new }
     ensures unmade { result.status ≡ Status.Memory → ⊥ }
-    ensures noted { IsNothingNoted result.journal }
-    ensures size { V.size result.drives ≡ V.size drives }
-    ensures later { (h : Half) → (V.faults drives h ≤ V.faults result.drives h) × (V.last_fault drives h ≤ V.last_fault result.drives h) }
-    ensures sink_later { K.faults out.old ≤ K.faults out.new }
 {
     match format(drives, store) {
         Ok(drives) => {
             let status = finish(out, text);
-            Ended {
-                status,
-                drives,
-                journal: empty_journal(alloc),
-            }
+            Ended::without_journal(alloc, status, drives)
         }
         Err(e) => {
             let status = end_drive(out, e.half);
-            Ended {
-                status,
-                drives: e.drives,
-                journal: empty_journal(alloc),
-            }
+            Ended::without_journal(alloc, status, e.drives)
         }
     }
 }
 
-/// Makes a new store on two halves, over whatever they hold, and prints a line for each of its files.
+/// Makes a new store of this key on two halves, over whatever they hold, and prints a line for each of its files.
 ///
-/// The status says how it ended: 0 where the store was made and printed, 5 where it was made and a line was refused, 3
-/// where a half failed, which is named, and 7 where there was not enough memory; the halves are then as they were. A
-/// crash within the call leaves the files that were there, or none, or the new ones.
+/// It has so many files, 1 to 4,032, and so many blocks: at most 65,536, and as many as its table and one page for each
+/// file need. The status says how it ended: 0 where the store was made and printed, 5 where it was made and a line was
+/// refused, 3 where a half failed, which is named, and 7 where there was not enough memory; the halves are then as they
+/// were. A crash within the call leaves the files that were there, or none, or the new ones.
 pub fn afs_format<V: Drives, K: Sink>(
     alloc: Global,
     drives: V,
-    store: &NewStore,
+    key: u64,
+    files: u32,
+    blocks: u32,
     out: &mut K,
 ) -> Ended<V>
-    requires { store.now.blocks ≤ V.size drives }
-    ensures ends { FormatEnds store.now V.tells (found (content_of (halves_seen V.seen result.drives)) (V.size drives))
-        (IsStopped (V.faults drives) (V.faults result.drives) (V.last_fault result.drives) (V.moment result.drives))
-        (K.written out.old) (K.written out.new) (Rose (K.faults out.old) (K.faults out.new)) result.status }
-    // Where nothing failed all is done, but for want of memory.
-    ensures complete { ((h : Half) → HalfFailed V.moment V.faults h drives result.drives → ⊥) → (Rose (K.faults out.old) (K.faults out.new) → ⊥)
-        → IsDone result.status }
-    // This holds where nothing is pending as the call begins.
-    ensures stands { V.tells → IsAtRest V.seen V.moment V.may_leave drives
-        → Changes V.moment (ContentsLeft V.may_leave) drives result.drives (StandsFor store.now (V.size drives)) }
-    ensures beyond { V.tells → SameBeyond store.now.files (content_of (halves_seen V.seen drives)) (content_of (halves_seen V.seen result.drives)) }
-    ensures lasts { V.tells → IsMade result.status → (f : ℕ → Option (List ℕ)) → ContentsLeft V.may_leave result.drives (V.moment result.drives) f → HasNewStore store.now f }
-    ensures unmade { result.status ≡ Status.Memory → result.drives ≡ drives }
-    ensures noted { IsNothingNoted result.journal }
-    ensures size { V.size result.drives ≡ V.size drives }
-    ensures later { (h : Half) → (V.faults drives h ≤ V.faults result.drives h) × (V.last_fault drives h ≤ V.last_fault result.drives h) }
-    ensures sink_later { K.faults out.old ≤ K.faults out.new }
+    requires range { IsInRange files blocks }
+    requires fits { blocks ≤ V.size drives }
+    ensures { FormatsNew V.Drives K.Sink key files blocks drives out.old result out.new }
 {
-    match new_files_text(alloc, store.files) {
-        Ok(text) => make_store(alloc, drives, store, &text, out),
+    match new_files_text(alloc, files) {
+        Ok(text) => make_store(alloc, drives, &NewStore { key, files, blocks }, &text, out),
         Err(_) => {
             let status = end_memory(out);
-            Ended {
-                status,
-                drives,
-                journal: empty_journal(alloc),
-            }
+            Ended::without_journal(alloc, status, drives)
         }
     }
 }

@@ -8,6 +8,7 @@ mod formatting;
 mod refused;
 mod show;
 mod showing;
+mod text;
 
 pub use cap::afs_cap;
 pub use check::afs_check;

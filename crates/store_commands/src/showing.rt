@@ -13,13 +13,13 @@ ghost use Rattle.tree_listing.specs.Results.{Gives};
 ghost use Rattle.store_commands.specs.Showing.{head_line, head_serials, shown_file, shown_files};
 ghost use Rattle.store_commands.specs.Shows.{AreObjects, IsObject, ShowEnds, UnlistedEnds};
 
+use afs_base::Head;
 use endings::{Status, end_bad_store, end_drive, end_memory, finish};
 use pair_store::Blocks;
 use script_text::Sink;
 use std::alloc::{AllocError, Global};
 use std::fmt::Write;
 use tree_listing::{ListingRefused, list_tree};
-use version_chain::Head;
 
 /// The serials of the versions that are kept, each after a space.
 fn serials_text(alloc: Global, head: &Head) -> Result<String, AllocError>
@@ -65,14 +65,21 @@ fn append_object<B: Blocks>(
     head: &Option<Head>,
     text: &mut Vec<u8>,
 ) -> Result<(), ListingRefused>
-    ensures only { OnlyRead B.tells B.size B.moment B.content B.may_leave B.settled B.settled_always B.faults B.last_fault store.old store.new }
-    ensures lines { OnOk result ((file : File) × (text.new.items ≡ text.old.items ++ shown_file object file)) }
-    ensures shown { B.tells → (file : File) → IsObject (B.settled store.old) (B.size store.old) (pages_of (B.content store.old)) head.now file
+    ensures only { OnlyRead B.Blocks store.old store.new }
+    ensures lines { OnOk result
+        ((file : File) × (text.new.items ≡ text.old.items ++ shown_file object file)) }
+    ensures shown { B.tells → (file : File)
+        → IsObject (B.settled store.old) (B.size store.old) (pages_of (B.content store.old))
+        head.now file
         → Gives (text.new.items ≡ text.old.items ++ shown_file object file) result }
-    ensures stopped { B.tells → (file : File) → IsObject (B.settled store.old) (B.size store.old) (pages_of (B.content store.old)) head.now file
-        → (h : Half) → IsErrOf result (ListingRefused.ReadFault h) → IsStopped (B.faults store.old) (B.faults store.new) (B.last_fault store.new) (B.moment store.new) h }
+    ensures stopped { B.tells → (file : File)
+        → IsObject (B.settled store.old) (B.size store.old) (pages_of (B.content store.old))
+        head.now file
+        → (h : Half) → IsErrOf result (ListingRefused.ReadFault h)
+        → IsStopped (B.faults store.old) (B.faults store.new) (B.last_fault store.new)
+        (B.moment store.new) h }
     ensures unread { (h : Half) → IsErrOf result (ListingRefused.ReadFault h)
-        → IsUnreadSince B.tells B.moment B.content B.settled B.faults B.last_fault store.old store.new h }
+        → IsUnreadSince B.Blocks store.old store.new h }
 {
     match head {
         None => Ok(()),
@@ -90,14 +97,21 @@ fn append_objects<B: Blocks>(
     heads: &[Option<Head>],
     text: &mut Vec<u8>,
 ) -> Result<(), ListingRefused>
-    ensures only { OnlyRead B.tells B.size B.moment B.content B.may_leave B.settled B.settled_always B.faults B.last_fault store.old store.new }
-    ensures lines { OnOk result ((files : List File) × (text.new.items ≡ text.old.items ++ shown_files 1 files)) }
-    ensures shown { B.tells → (files : List File) → AreObjects (B.settled store.old) (B.size store.old) (pages_of (B.content store.old)) heads.now files
+    ensures only { OnlyRead B.Blocks store.old store.new }
+    ensures lines { OnOk result
+        ((files : List File) × (text.new.items ≡ text.old.items ++ shown_files 1 files)) }
+    ensures shown { B.tells → (files : List File)
+        → AreObjects (B.settled store.old) (B.size store.old) (pages_of (B.content store.old))
+        heads.now files
         → Gives (text.new.items ≡ text.old.items ++ shown_files 1 files) result }
-    ensures stopped { B.tells → (files : List File) → AreObjects (B.settled store.old) (B.size store.old) (pages_of (B.content store.old)) heads.now files
-        → (h : Half) → IsErrOf result (ListingRefused.ReadFault h) → IsStopped (B.faults store.old) (B.faults store.new) (B.last_fault store.new) (B.moment store.new) h }
+    ensures stopped { B.tells → (files : List File)
+        → AreObjects (B.settled store.old) (B.size store.old) (pages_of (B.content store.old))
+        heads.now files
+        → (h : Half) → IsErrOf result (ListingRefused.ReadFault h)
+        → IsStopped (B.faults store.old) (B.faults store.new) (B.last_fault store.new)
+        (B.moment store.new) h }
     ensures unread { (h : Half) → IsErrOf result (ListingRefused.ReadFault h)
-        → IsUnreadSince B.tells B.moment B.content B.settled B.faults B.last_fault store.old store.new h }
+        → IsUnreadSince B.Blocks store.old store.new h }
 {
     'objects: for k in 0..heads.len() {
         append_object(alloc, store, k + 1, &heads[k], text)?;
@@ -107,7 +121,8 @@ fn append_objects<B: Blocks>(
 
 /// Ends a command whose listing stopped, for this cause.
 fn end_unlisted<K: Sink>(alloc: Global, out: &mut K, why: ListingRefused) -> Status
-    ensures ends { UnlistedEnds (K.written out.old) (K.written out.new) (Rose (K.faults out.old) (K.faults out.new)) why result }
+    ensures ends { UnlistedEnds (K.written out.old) (K.written out.new)
+        (Rose (K.faults out.old) (K.faults out.new)) why result }
     ensures later { K.faults out.old ≤ K.faults out.new }
 {
     match why {
@@ -124,12 +139,13 @@ pub(crate) fn end_shown<B: Blocks, K: Sink>(
     heads: &[Option<Head>],
     out: &mut K,
 ) -> Status
-    ensures only { OnlyRead B.tells B.size B.moment B.content B.may_leave B.settled B.settled_always B.faults B.last_fault store.old store.new }
-    ensures ends { ShowEnds
-        (λ files. B.tells × AreObjects (B.settled store.old) (B.size store.old) (pages_of (B.content store.old)) heads.now files)
-        (λ h. IsStopped (B.faults store.old) (B.faults store.new) (B.last_fault store.new) (B.moment store.new) h)
-        (λ h. IsUnreadSince B.tells B.moment B.content B.settled B.faults B.last_fault store.old store.new h)
-        (K.written out.old) (K.written out.new) (Rose (K.faults out.old) (K.faults out.new)) result }
+    ensures only { OnlyRead B.Blocks store.old store.new }
+    ensures ends { ShowEnds (λ files. B.tells
+        × AreObjects (B.settled store.old) (B.size store.old) (pages_of (B.content store.old))
+        heads.now files) (λ h. IsStopped (B.faults store.old) (B.faults store.new)
+        (B.last_fault store.new) (B.moment store.new) h)
+        (IsUnreadSince B.Blocks store.old store.new) (K.written out.old) (K.written out.new)
+        (Rose (K.faults out.old) (K.faults out.new)) result }
     ensures later { K.faults out.old ≤ K.faults out.new }
 {
     let mut text = Vec::new(alloc);

@@ -5,12 +5,12 @@ use Rattle.store_commands.proofs.showing.append_object.Goals as goal
 pub returns-in_err-append_line-in-Some-clause-only : goal.returns-in_err-append_line-in-Some-clause-only
 returns-in_err-append_line-in-Some-clause-only g c =
     let b = g.B.Blocks in
-    none_read b.tells b.size b.moment b.content b.may_leave b.settled b.settled_always b.faults b.last_fault c.args.store.now (g.met.B.Blocks.clock c.args.store.now)
+    none_read b c.args.store.now (g.met.B.Blocks.clock c.args.store.now)
 
 pub returns-in-None-clause-only : goal.returns-in-None-clause-only
 returns-in-None-clause-only g c =
     let b = g.B.Blocks in
-    none_read b.tells b.size b.moment b.content b.may_leave b.settled b.settled_always b.faults b.last_fault c.args.store.now (g.met.B.Blocks.clock c.args.store.now)
+    none_read b c.args.store.now (g.met.B.Blocks.clock c.args.store.now)
 
 pub returns-in-None-clause-lines : goal.returns-in-None-clause-lines
 returns-in-None-clause-lines g c = lines_none c.args.object c.args.text.now.items

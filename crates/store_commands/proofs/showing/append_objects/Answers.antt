@@ -10,7 +10,7 @@ use Rattle.store_commands.proofs.showing.append_objects.Goals as goal
 pub objects-init : goal.objects-init
 objects-init g c =
     let b = g.B.Blocks in record {
-      only = none_read b.tells b.size b.moment b.content b.may_leave b.settled b.settled_always b.faults b.last_fault c.args.store.now (g.met.B.Blocks.clock c.args.store.now);
+      only = none_read b c.args.store.now (g.met.B.Blocks.clock c.args.store.now);
       listed = listed_none c.args.text.now.items;
       told = λ told files are. sym (append-nil c.args.text.now.items);
     }
@@ -18,7 +18,7 @@ objects-init g c =
 pub returns-in_err-append_object-clause-only : goal.returns-in_err-append_object-clause-only
 returns-in_err-append_object-clause-only g c =
     let b = g.B.Blocks in
-    read_on b.tells b.size b.moment b.content b.may_leave b.settled b.settled_always b.faults b.last_fault c.args.store.now c.objects.store c.append_object.new.store
+    read_on b c.args.store.now c.objects.store c.append_object.new.store
     c.objects.invariant.only c.in_err-append_object.ensures.only
 
 pub returns-in_err-append_object-clause-shown : goal.returns-in_err-append_object-clause-shown
@@ -32,7 +32,7 @@ returns-in_err-append_object-clause-shown g c = λ told files are.
     let p = err_from_is_err_and c.from_residual.result c.from_residual.ensures.1 in
     gives_exit _ c.from_residual.result c.in_err-append_object.field-0.0 (p.1 ∙ ap Err p.2)
     (c.in_err-append_object.ensures.shown told at.file
-    (object_on b.tells b.size b.moment b.content b.may_leave b.settled b.settled_always b.faults b.last_fault s c.objects.store c.objects.invariant.only told head at.file at.is))
+    (object_on b s c.objects.store c.objects.invariant.only told head at.file at.is))
 
 pub returns-in_err-append_object-clause-stopped : goal.returns-in_err-append_object-clause-stopped
 returns-in_err-append_object-clause-stopped g c = λ told files are h is.
@@ -44,9 +44,9 @@ returns-in_err-append_object-clause-stopped g c = λ told files are h is.
     let at = object_at (b.settled s) (b.size s) (pages_of (b.content s)) heads files k head c.index-heads-k.is c.objects-test.true are in
     let p = err_from_is_err_and c.from_residual.result c.from_residual.ensures.1 in
     let one : c.in_err-append_object.field-0.0 ≡ ListingRefused.ReadFault h = cc in
-    stopped_since b.tells b.size b.moment b.content b.may_leave b.settled b.settled_always b.faults b.last_fault s c.objects.store c.append_object.new.store h c.objects.invariant.only
+    stopped_since b s c.objects.store c.append_object.new.store h c.objects.invariant.only
     (c.in_err-append_object.ensures.stopped told at.file
-    (object_on b.tells b.size b.moment b.content b.may_leave b.settled b.settled_always b.faults b.last_fault s c.objects.store c.objects.invariant.only told head at.file at.is)
+    (object_on b s c.objects.store c.objects.invariant.only told head at.file at.is)
     h (ap Err one))
 
 pub returns-in_err-append_object-clause-unread : goal.returns-in_err-append_object-clause-unread
@@ -54,7 +54,7 @@ returns-in_err-append_object-clause-unread g c = λ h is.
     let b = g.B.Blocks in
     let p = err_from_is_err_and c.from_residual.result c.from_residual.ensures.1 in
     let one : c.in_err-append_object.field-0.0 ≡ ListingRefused.ReadFault h = cc in
-    unread_since b.tells b.size b.moment b.content b.may_leave b.settled b.settled_always b.faults b.last_fault c.args.store.now c.objects.store c.append_object.new.store h
+    unread_since b c.args.store.now c.objects.store c.append_object.new.store h
     c.objects.invariant.only (c.in_err-append_object.ensures.unread h (ap Err one))
 
 pub objects-preserved : goal.objects-preserved
@@ -70,13 +70,13 @@ objects-preserved g c =
     let mid = c.objects.text.items in
     let new = c.append_object.new.text.items in
     record {
-      only = read_on b.tells b.size b.moment b.content b.may_leave b.settled b.settled_always b.faults b.last_fault s c.objects.store c.append_object.new.store i.only e.only;
+      only = read_on b s c.objects.store c.append_object.new.store i.only e.only;
       listed = listed_more old mid new k i.listed e.lines;
       told = λ told files are.
           let at = object_at (b.settled s) (b.size s) (pages_of (b.content s)) heads files k head c.index-heads-k.is c.objects-test.true are in
           told_more old mid new k files (b.settled s) (b.size s) (pages_of (b.content s)) head at (i.told told files are)
           (e.shown told at.file
-          (object_on b.tells b.size b.moment b.content b.may_leave b.settled b.settled_always b.faults b.last_fault s c.objects.store i.only told head at.file at.is));
+          (object_on b s c.objects.store i.only told head at.file at.is));
     }
 
 pub returns-clause-shown : goal.returns-clause-shown

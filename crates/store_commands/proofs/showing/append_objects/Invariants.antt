@@ -9,7 +9,7 @@ use Rattle.store_commands.proofs.showing.append_objects.Given as goal
 
 abbrev pub invariant-objects : goal.invariant-objects
 invariant-objects g l = let b = g.B.Blocks in record {
-  only : OnlyRead b.tells b.size b.moment b.content b.may_leave b.settled b.settled_always b.faults b.last_fault l.fn.store l.store;
+  only : OnlyRead b l.fn.store l.store;
   listed : FilesListed l.fn.text.items l.text.items l.k;
   told : b.tells → (files : List File) → AreObjects (b.settled l.fn.store) (b.size l.fn.store) (pages_of (b.content l.fn.store)) l.fn.heads files
       → l.text.items ≡ l.fn.text.items ++ shown_files 1 (take l.k files);
