@@ -4,7 +4,7 @@ ghost use Rattle.std.specs.Prelude.{◌≡◌, IfOk, vec_len};
 use crate::{Invocation, serve};
 use afs_top::{Status, afs_words};
 use drive_file::FileDrives;
-use drives::{Drives, Half, SureDrives};
+use drives::{Drives, Half, Memory, SureDrives};
 use page_codec::fresh_image;
 use script_text::{MemSink, MemSource};
 use std::alloc::{AllocError, Global};
@@ -110,7 +110,7 @@ const PAGES: [(usize, &[u8]); 8] = [
 ];
 
 /// A half of the new store of two files with that version.
-fn half_with_pages(alloc: Global) -> Result<Vec<u8>, AllocError>
+fn half_with_pages(alloc: Global) -> Result<Vec<u8>, Memory>
     ensures { IfOk result (λ half. vec_len half ≡ 65536) }
 {
     let mut half = fresh_image(alloc, 2, 64, 7)?;

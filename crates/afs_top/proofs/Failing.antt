@@ -1,7 +1,6 @@
 -- How a fault of a call on a block is one of the run.
-use Rattle.std.proofs.Common.{◌≡◌, ◌⊎◌, inl, inr, ℕ, ◌+◌, ◌-◌, ◌^◌, ◌≤◌, min, sym, subst, arith}
+use Rattle.std.proofs.Common.{◌≡◌, inl, inr, ℕ, ◌+◌, ◌-◌, ◌^◌, ◌≤◌, min, sym, subst, arith}
 use Rattle.drives.specs.declared.device.Half.{Half}
-use Rattle.drives.specs.Faults.{HasFailed}
 use Rattle.pair_store.specs.Faults.{IsStopped, IsUnread}
 use Rattle.recovery.specs.Opening.{IsFailed}
 
@@ -14,7 +13,7 @@ module _ (faults faults' last : Half → ℕ) (moment : ℕ) (h : Half) where
       record {
         failed = u.failed;
         last = elim u.last [
-          | inl x ↦ inl (let P : Half → Type 0 = λ k. last k ≡ moment in subst P (sym x.0) x.1)
+          | inl x ↦ inl x
           | inr x ↦ inr ((let P : Half → Type 0 = λ k. moment ≡ min (last k + 1) (2 ^ 64 - 1) in subst P (sym x.0) x.1), f x.2)
         ];
       }

@@ -1,5 +1,5 @@
 -- What the first of the sources has, and what it is after it was read.
-use Rattle.std.proofs.Common.{◌≡◌, ℕ, List, [], ◌∷◌, length, get_or, Option, sym, ap, arith, refl, slice_set}
+use Rattle.std.proofs.Common.{◌≡◌, ℕ, List, [], ◌∷◌, length, get_or, Option, arith, refl, slice_set}
 use Rattle.afs_top.specs.Words.{faults_of, left_of}
 
 pub left_first : {S : Type 0} (left : S → Option (List ℕ)) (xs : List S) (d : S) → length xs ≡ 1 → left (get_or xs 0 d) ≡ left_of left xs

@@ -1,18 +1,17 @@
 -- The states that the run of an update goes through, written out, are those of the store that is served.
-use Rattle.std.proofs.Common.{◌≡◌, ℕ, zero, suc, ◌+◌, ◌<◌, ◌≤◌, Bool, true, false, cond, nat_le, leb, List, [], ◌∷◌, map, replicate, Some, None, refl, sym, ap, subst, ◌∙◌, All, arith, if◌then◌else◌}
+use Rattle.std.proofs.Common.{◌≡◌, ℕ, zero, suc, ◌+◌, ◌<◌, false, cond, nat_le, List, [], ◌∷◌, map, replicate, refl, sym, ap, ◌∙◌, All, arith, if◌then◌else◌}
 use Rattle.std.specs.FinMap as finmap
 use Rattle.std.specs.FinMap.{get-from_entries}
 use Rattle.std.specs.List.{range_with_len}
 use Rattle.std.proofs.lemmas.Bool.Decides.{nat_tests}
-use Rattle.afs_base.specs.Path.{path_cmp}
 use Rattle.page_codec.specs.NewStore.{secret_of}
 use Rattle.page_codec.specs.Numbers.{zeros}
 use Rattle.store_model.specs.Changes.{with_version}
 use Rattle.store_model.specs.NewStores.{blank_version, new_file as new_file_of}
 use Rattle.tree_model.specs.declared.step.Step.{Step}
-use Rattle.tree_model.specs.States.{State, File, Version}
-use Rattle.tree_model.specs.Trees.{Tree, single, tree_after}
-use Rattle.tree_model.proofs.Paths.{path_total, path_only, same}
+use Rattle.tree_model.specs.States.{File}
+use Rattle.tree_model.specs.Trees.{single, tree_after}
+use Rattle.tree_model.proofs.Paths.{path_total, path_only}
 use Rattle.afs_top.specs.Course.{is_written_by}
 use Rattle.afs_top.specs.Script.{IsRootStep}
 use Rattle.afs_top.specs.Served.{committed_state, root_data, second_state, second_version, served_state}

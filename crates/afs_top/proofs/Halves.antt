@@ -1,4 +1,7 @@
-use Rattle.std.proofs.Common.{Result, Ok, Err, OnOk, OnErr, IfErr}
+use Rattle.std.proofs.Common.{Result, Ok, Err, OnOk, OnErr, IfOk, IfErr}
+use Rattle.afs_top.specs.declared.served.Served.{Served}
+use Rattle.afs_top.specs.declared.served.Unserved.{Unserved}
+use Rattle.afs_top.specs.Opening.{served_drives}
 use Rattle.drives.specs.declared.device.Half.{Half}
 use Rattle.drives.specs.declared.device.Half.TheVariants.{A, B}
 
@@ -31,3 +34,12 @@ of_ok (Err e) P h = tt
 pub if_err : {T E : Type 0} (r : Result T E) (P Q : E → Type 0) → ((e : E) → P e → Q e) → IfErr r P → IfErr r Q
 if_err (Ok x) P Q f h = h
 if_err (Err e) P Q f h = f e h
+
+-- what holds of the drives that come back holds of those that are served, or of those that are not
+pub served_ok : {V : Type 0} (r : Result (Served V) (Unserved V)) (P : V → Type 0) → P (served_drives r) → IfOk r (λ s. P s.pair.drives)
+served_ok (Ok s) P h = h
+served_ok (Err e) P h = tt
+
+pub served_err : {V : Type 0} (r : Result (Served V) (Unserved V)) (P : V → Type 0) → P (served_drives r) → IfErr r (λ e. P e.drives)
+served_err (Ok s) P h = tt
+served_err (Err e) P h = h

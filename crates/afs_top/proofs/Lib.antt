@@ -1,10 +1,11 @@
 pub mod Standings
+pub mod Kept
 pub mod Ends
 pub mod Failing
 pub mod Firsts
 pub mod Forms
 pub mod Halves
-pub mod Journal
+pub mod Noting
 pub mod Lines
 mod NewTest
 mod Outside
@@ -17,3 +18,4 @@ mod Second
 mod Singles
 pub mod StepLoop
 pub mod Whole
+mod Calls

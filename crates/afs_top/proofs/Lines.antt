@@ -9,7 +9,7 @@ use Rattle.service_model.specs.Print.{answer_text, client_text, clients_text, fi
 use Rattle.service_model.specs.Standing.{Standing, Client}
 use Rattle.afs_top.specs.Course.{scripts_of, whole_answers, is_written_by}
 use Rattle.afs_top.proofs.Standings.{plain_second, final_standing, client_with}
-use Rattle.afs_top.proofs.Journal.{whole_answers-length}
+use Rattle.afs_top.proofs.Noting.{whole_answers-length}
 use Rattle.std.specs.Prelude.{if◌then◌else◌}
 use Rattle.afs_top.specs.Output.{file_line, reply_lines}
 use Rattle.afs_top.proofs.Standings.{no_files, plain_state}

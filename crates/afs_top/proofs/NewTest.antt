@@ -1,5 +1,5 @@
 -- When an opened store is the new one that is served.
-use Rattle.std.proofs.Common.{◌≡◌, ◌↔◌, inl, inr, ℕ, zero, suc, ◌+◌, ◌≤◌, ◌<◌, Bool, true, false, nat_le, List, [], ◌∷◌, length, map, filter, Option, Some, None, option_map, MatchBool, Ok, refl, sym, ap, subst, ◌∙◌, slice_get, arith, cond}
+use Rattle.std.proofs.Common.{◌≡◌, ◌↔◌, inl, inr, ℕ, zero, suc, ◌+◌, ◌≤◌, ◌<◌, Bool, true, false, nat_le, List, [], ◌∷◌, length, map, filter, Option, Some, None, option_map, MatchBool, refl, sym, ap, subst, ◌∙◌, slice_get, arith, cond}
 use Rattle.std.specs.List.{range_with_len}
 use Rattle.std.proofs.lemmas.Bool.{leb-true, le-leb}
 use Rattle.std.proofs.lemmas.List.Sums.{sum_by-cons}
@@ -11,12 +11,12 @@ use Rattle.page_codec.specs.NewStore.{secret_of}
 use Rattle.page_codec.specs.Numbers.{zeros}
 use Rattle.page_codec.specs.Values.{EntryValue, TableValue, VersionValue}
 use Rattle.pair_store.specs.ContentLaws.{decide}
-use Rattle.recovery.specs.Opening.{IsOpened, head_of, heads_of}
+use Rattle.recovery.specs.Opening.{IsOpened, head_of}
 use Rattle.store_check.specs.Files.{kept_by, own_pages}
 use Rattle.tree_model.specs.States.{State, File, Version}
-use Rattle.version_chain.specs.declared.head.Head.{Head}
+use Rattle.afs_base.specs.declared.head.Head.{Head}
 use Rattle.store_model.specs.Laid.{Node, LaidVersion, LaidFile}
-use Rattle.store_model.specs.Found.{LaidStore, file_in, laid, state_in, version_in}
+use Rattle.store_model.specs.Found.{file_in, state_in, version_in}
 use Rattle.store_model.specs.Changes.{version_in_block}
 use Rattle.store_model.specs.NewStores.{blank_version, new_file}
 use Rattle.store_model.proofs.Edits.{some_is, none_some}

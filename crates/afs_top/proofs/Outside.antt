@@ -1,5 +1,5 @@
 -- A list of few numbers leaves out others.
-use Rattle.std.proofs.Common.{◌≡◌, ◌≢◌, ℕ, zero, suc, ◌+◌, ◌≤◌, ◌<◌, Bool, true, false, cond, nat_eq, List, [], ◌∷◌, length, count_by, Some, inl, inr, refl, sym, ap, subst, ◌∙◌, slice_get, arith, true≢false}
+use Rattle.std.proofs.Common.{◌≡◌, ◌≢◌, ℕ, zero, suc, ◌+◌, ◌≤◌, ◌<◌, Bool, false, cond, nat_eq, List, [], ◌∷◌, length, count_by, Some, inl, inr, refl, sym, ap, subst, ◌∙◌, slice_get, arith, true≢false}
 use Rattle.std.specs.List.{list_any}
 use Rattle.std.proofs.lemmas.List.Sums.{sum_by-cons}
 use Rattle.tree_model.proofs.Paths.{told}

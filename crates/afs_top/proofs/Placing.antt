@@ -1,10 +1,10 @@
 -- Where a commit may write, once a store was opened that is the one that is served.
-use Rattle.std.proofs.Common.{◌≡◌, ◌≢◌, ℕ, zero, suc, ◌+◌, ◌==◌, ◌||◌, ◌≤◌, ◌<◌, Bool, true, false, MatchBool, nat_eq, nat_le, List, [], ◌∷◌, length, Option, Some, None, Result, Ok, Err, is_some, refl, sym, ap, subst, ◌∙◌, slice_get, arith, true≢false}
+use Rattle.std.proofs.Common.{◌≡◌, ◌≢◌, ℕ, zero, suc, ◌+◌, ◌==◌, ◌||◌, ◌≤◌, ◌<◌, Bool, true, false, MatchBool, nat_eq, nat_le, List, [], ◌∷◌, length, Option, Some, None, Result, Ok, is_some, refl, sym, ap, subst, ◌∙◌, slice_get, arith, true≢false}
 use Rattle.std.specs.List.{list_any}
 use Rattle.std.proofs.lemmas.Bool.{le-leb}
 use Rattle.std.proofs.lemmas.Option.{slice_get-get_or}
 use Rattle.block_map.specs.declared.states.BlockState.{BlockState}
-use Rattle.block_map.specs.declared.states.BlockState.TheVariants.{Free, Kept}
+use Rattle.block_map.specs.declared.states.BlockState.TheVariants.{Free}
 use Rattle.page_codec.specs.NewStore.{secret_of}
 use Rattle.page_codec.specs.Numbers.{zeros}
 use Rattle.page_codec.specs.Values.{TableValue, VersionValue}
@@ -14,12 +14,12 @@ use Rattle.store_model.specs.Walk.{Refused}
 use Rattle.store_model.specs.Laid.{LaidFile, LaidVersion, last_laid}
 use Rattle.store_model.specs.Found.{found, state_in, state_of}
 use Rattle.store_model.specs.Changes.{version_in_block}
-use Rattle.store_model.proofs.Edits.{some_is, none_some}
+use Rattle.store_model.proofs.Edits.{some_is}
 use Rattle.store_model.proofs.Steps.{Content}
 use Rattle.tree_model.specs.States.{State}
-use Rattle.version_chain.specs.declared.head.Head.{Head}
-use Rattle.afs_top.specs.Served.{HasBlock, HoldsPage, IsBlank, IsNewFile, IsNewTable, IsReady, IsServed, served_state}
-use Rattle.afs_top.proofs.NewTest.{BlankPages, blank_if, entry_at, file_at, file_count, head_at, rooted_at, served_if, table_if}
+use Rattle.afs_base.specs.declared.head.Head.{Head}
+use Rattle.afs_top.specs.Served.{HasBlock, HoldsPage, IsBlank, IsNewTable, IsReady, IsServed, served_state}
+use Rattle.afs_top.proofs.NewTest.{BlankPages, blank_if, entry_at, file_at, file_count, head_at, rooted_at, served_if}
 use Rattle.afs_top.proofs.Second.{page_read}
 use Rattle.afs_top.proofs.Singles.{OneFirst, Single, one_first, single}
 

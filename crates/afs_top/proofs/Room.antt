@@ -1,5 +1,5 @@
 -- The store that is served has room: fewer blocks are in use than are free.
-use Rattle.std.proofs.Common.{◌≡◌, ◌≢◌, ℕ, zero, suc, ◌+◌, ◌==◌, ◌≤◌, ◌<◌, Bool, true, false, cond, ◌||◌, nat_eq, List, [], ◌∷◌, length, map, filter, sum_by, count_by, Option, Some, refl, sym, ap, subst, ◌∙◌, slice_get, arith, inl, inr, eqb-true, true≢false}
+use Rattle.std.proofs.Common.{◌≡◌, ◌≢◌, ℕ, ◌+◌, ◌==◌, ◌≤◌, ◌<◌, Bool, true, false, cond, ◌||◌, nat_eq, List, [], ◌∷◌, length, map, filter, sum_by, count_by, Option, Some, refl, sym, ap, subst, ◌∙◌, slice_get, arith, inl, inr, eqb-true, true≢false}
 use Rattle.std.specs.List.{list_any}
 use Rattle.std.specs.Option.{is_some}
 use Rattle.std.proofs.lemmas.Bool.Decides.{nat_tests}
@@ -22,8 +22,8 @@ use Rattle.store_model.proofs.Edits.{some_is}
 use Rattle.store_model.proofs.PlaceLists.{IsIn, in_head, in_tail, not_in}
 use Rattle.store_model.proofs.Steps.{Content}
 use Rattle.tree_model.proofs.Paths.{or_told}
-use Rattle.tree_model.specs.States.{State, File, Version}
-use Rattle.version_chain.specs.declared.head.Head.{Head}
+use Rattle.tree_model.specs.States.{State, Version}
+use Rattle.afs_base.specs.declared.head.Head.{Head}
 use Rattle.afs_top.specs.Served.{served_state}
 use Rattle.afs_top.proofs.Outside.{outside, passing}
 

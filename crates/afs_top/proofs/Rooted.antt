@@ -1,5 +1,5 @@
 -- Each version of a store that is found begins with the page `/`, which is its own.
-use Rattle.std.proofs.Common.{◌≡◌, ℕ, zero, suc, ◌==◌, true, List, [], ◌∷◌, ◌++◌, Option, Some, None, Ok, refl}
+use Rattle.std.proofs.Common.{◌≡◌, ℕ, zero, suc, ◌==◌, true, List, [], ◌∷◌, Option, Some, None, Ok, refl}
 use Rattle.store_model.specs.Laid.{Node, LaidVersion, LaidFile}
 use Rattle.store_model.specs.Chains.{version_at, chain_from, chain_at}
 use Rattle.store_model.specs.Tables.{Row, files_from}

@@ -1,8 +1,9 @@
 -- The second version of file 1: its page makes no file but is its next version; and by one write of the first version's page the file has it.
 use mathlib.Core.Path.{fun_ext}
-use Rattle.std.proofs.Common.{◌≡◌, ◌≢◌, ℕ, zero, suc, ◌+◌, ◌==◌, ◌&&◌, ◌≤◌, ◌<◌, ◌^◌, true, false, nat_le, nat_lt, List, [], ◌∷◌, replicate, Option, Some, None, Result, Ok, Err, slice_index, refl, sym, ap, subst, ◌∙◌, arith, eq-eqb, true≢false}
+use Rattle.std.proofs.Common.{◌≡◌, ◌≢◌, ◌⊎◌, inl, inr, ℕ, zero, suc, ◌+◌, ◌==◌, ◌≤◌, ◌<◌, ◌^◌, true, nat_le, nat_lt, List, [], ◌∷◌, replicate, Option, Some, None, Result, Ok, Err, slice_index, refl, sym, ap, subst, ◌∙◌, arith, eq-eqb, true≢false}
 use Rattle.std.specs.Option.{option_and_then}
 use Rattle.std.proofs.lemmas.Bool.{le-leb, lt-ltb}
+use Rattle.std.proofs.lemmas.Bool.Decides.{eqb_tells}
 use Rattle.tree_model.proofs.Paths.{both_true}
 use Rattle.tree_model.specs.States.{State}
 use Rattle.page_codec.specs.Blank.{empty_reference, empty_slots}
@@ -11,26 +12,27 @@ use Rattle.page_codec.specs.Causes.{version_of, version_causes, first_cause}
 use Rattle.page_codec.specs.Reading.{version_value}
 use Rattle.page_codec.specs.Spelling.{frame_bytes, version_bytes}
 use Rattle.page_codec.specs.declared.why.Why.{Why}
-use Rattle.page_codec.specs.Values.{VersionValue, MemberValue}
+use Rattle.page_codec.specs.Values.{VersionValue}
 use Rattle.page_codec.proofs.VersionLaws.{version_of-version_bytes}
 use Rattle.pair_store.specs.Answers.{HasCommit, HasNoVersion}
-use Rattle.pair_store.specs.Blocks.{SameContents}
+use Rattle.pair_store.specs.declared.store.Blocks.{Ghosts}
+use Rattle.pair_store.specs.Blocks.{OldOrNew, SameContents}
 use Rattle.pair_store.specs.Pages.{with_commit as bytes_with_commit}
 use Rattle.store_model.specs.Walk.{bind, done}
 use Rattle.store_model.specs.Laid.{Node, LaidVersion}
 use Rattle.store_model.specs.Pages.{Below, slot_from, slots_from, pages_below}
 use Rattle.store_model.specs.Chains.{version_at}
-use Rattle.store_model.specs.Members.{Linked, names_none, members_linked}
-use Rattle.store_model.specs.Found.{LaidStore, found, laid, state_in, state_of, version_in}
+use Rattle.store_model.specs.Members.{Linked, members_linked}
+use Rattle.store_model.specs.Found.{found, laid, state_of}
 use Rattle.store_model.specs.Laws.{read_of}
-use Rattle.store_model.specs.Changes.{IsTop, NextVersion, Rewrites, files_committed, version_in_block, with_commit, with_version}
+use Rattle.store_model.specs.Changes.{NextVersion, Rewrites, files_committed, version_in_block, with_commit, with_version}
 use Rattle.ref_flags.specs.Flagged.{Flagged}
 use Rattle.store_model.proofs.Edits.{some_is, none_some}
 use Rattle.store_model.proofs.Gathering.{committing_appends}
 use Rattle.store_model.proofs.Locality.{laid_alike}
 use Rattle.store_model.proofs.PlaceLists.{IsIn}
-use Rattle.store_model.proofs.Reading.{Uncaused, uncaused}
-use Rattle.store_model.proofs.Rewriting.{Bytes, bytes_of, made_of, version_made, Follows}
+use Rattle.store_model.proofs.Reading.{uncaused}
+use Rattle.store_model.proofs.Rewriting.{Bytes, bytes_of, made_of, version_made}
 use Rattle.store_model.proofs.Steps.{Content, blocks_of, went_on}
 use Rattle.afs_top.specs.Served.{HasNext, HoldsPage, IsReady, second_page, second_state, second_version, served_state}
 
@@ -70,6 +72,20 @@ version_gate v = refl
 -- contents that are the same stand for the same files
 pub same_found : (c d : Content) (most : ℕ) → SameContents c d → found d most ≡ found c most
 same_found c d most same = ap (λ (x : Content). found x most) (fun_ext same)
+
+-- a store that was not touched
+pub untouched_found : {B : Type 0} (b : Ghosts B) (s t : B) → t ≡ s → found (b.content t) (b.size t) ≡ found (b.content s) (b.size s)
+untouched_found b s t same = ap (λ x. found (b.content x) (b.size x)) same
+
+pub untouched_rest : {B : Type 0} (b : Ghosts B) (s t : B) → t ≡ s → b.rest s → b.rest t
+untouched_rest b s t same rest = subst b.rest (sym same) rest
+
+-- where one block and all others have their contents, all have
+all_same : (n : ℕ) (c d : Content) → d n ≡ c n → ((k : ℕ) → k ≢ n → d k ≡ c k) → SameContents c d
+all_same n c d here others k = elim (eqb_tells k n) [
+  | inl is ↦ subst (λ (m : ℕ). d m ≡ c m) (sym is.1) here
+  | inr apart ↦ others k apart.1
+]
 
 module _ (c : Content) (most base free : ℕ) (r : IsReady c most base free) where
   -- the store has 64 blocks
@@ -222,3 +238,11 @@ module _ (c : Content) (most base free : ℕ) (bytes : List ℕ) (n : HasNext c 
         others = λ k h. sym (others k (λ e. h (e ∙ sym block)));
       } in
       committing_appends c d most r.store r.places r.laid next refl rw ∙ ap (λ s. Ok (with_version 0 (second_version bytes) s)) r.state
+
+  -- a write of the link that failed: the files that are found are those that were, or the second version is among them
+  pub cut_found : (d : Content) → OldOrNew base (bytes_with_commit free (version_bytes r.page)) c d
+      → (found d most ≡ found c most) ⊎ (found d most ≡ Ok (second_state bytes))
+  cut_found d cut = elim cut.here [
+    | inl same ↦ inl (same_found c d most (all_same base c d same cut.others))
+    | inr made ↦ inr (second_found d made cut.others)
+  ]

@@ -1,5 +1,5 @@
 -- A file of a store that is found with one version: what its block holds, and when that version is a blank one.
-use Rattle.std.proofs.Common.{◌≡◌, ℕ, zero, suc, ◌+◌, ◌-◌, ◌<◌, ◌≤◌, Bool, true, false, cond, List, [], ◌∷◌, ◌++◌, length, map, filter, sum, sum_by, inl, inr, ◌⊎◌, Option, Some, None, option_map, nat_eq, ◌||◌, Ok, refl, sym, ap, subst, ◌∙◌, slice_get, arith, length-append, true≢false}
+use Rattle.std.proofs.Common.{◌≡◌, ℕ, suc, ◌+◌, ◌-◌, ◌<◌, ◌≤◌, Bool, true, false, cond, List, [], ◌∷◌, ◌++◌, length, map, filter, inl, inr, Option, Some, None, option_map, nat_eq, ◌||◌, Ok, refl, sym, ap, subst, ◌∙◌, slice_get, arith, length-append, true≢false}
 use Rattle.std.proofs.lemmas.List.Sums.{sum_by-cons}
 use Rattle.std.proofs.lemmas.Option.{slice_get-get_or}
 use Rattle.std.specs.FinMap as finmap
@@ -7,19 +7,18 @@ use Rattle.std.specs.FinMap.{get-from_entries}
 use Rattle.std.specs.List.{list_any}
 use Rattle.std.specs.Option.{is_some, option_and_then}
 use Rattle.afs_base.specs.Path.{path_cmp}
-use Rattle.draft_model.specs.Places.{Store, Holds, same, block_at, slot_block}
+use Rattle.page_places.specs.Places.{Store, Holds, same, block_at, slot_block}
 use Rattle.page_codec.specs.Values.{PageValue, ReferenceValue, VersionValue}
-use Rattle.page_codec.specs.Causes.{version_of}
 use Rattle.recovery.specs.Opening.{head_of}
-use Rattle.store_check.specs.Files.{first_serial, kept_by, own_pages as own_number}
+use Rattle.store_check.specs.Files.{kept_by, own_pages as own_number}
 use Rattle.tree_model.specs.States.{Version}
 use Rattle.tree_model.specs.Trees.{Tree}
 use Rattle.tree_model.proofs.Paths.{path_total, path_only, same_self, told}
-use Rattle.version_chain.specs.declared.head.Head.{Head}
+use Rattle.afs_base.specs.declared.head.Head.{Head}
 use Rattle.store_model.specs.Laid.{Node, LaidVersion, LaidFile, last_laid}
 use Rattle.store_model.specs.Members.{tops_from, longer, tops_linked}
 use Rattle.store_model.specs.Found.{LaidStore, laid, version_in}
-use Rattle.store_model.specs.Laws.{pages_of, IsVersionOf}
+use Rattle.store_model.specs.Laws.{pages_of}
 use Rattle.store_model.specs.Changes.{version_in_block}
 use Rattle.store_model.specs.NewStores.{blank_version}
 use Rattle.store_model.proofs.Aside.{objects_in, tops_step}

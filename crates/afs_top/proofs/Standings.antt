@@ -1,5 +1,5 @@
 -- What stands in the run of one update, over the state of the new store written out.
-use Rattle.std.proofs.Common.{◌≡◌, ℕ, List, [], ◌∷◌, ◌++◌, Option, Some, None, replicate, if◌then◌else◌}
+use Rattle.std.proofs.Common.{ℕ, List, [], ◌∷◌, Option, Some, None, replicate, if◌then◌else◌}
 use Rattle.std.specs.FinMap as map
 use Rattle.page_codec.specs.NewStore.{secret_of}
 use Rattle.page_codec.specs.Numbers.{zeros}

@@ -1,8 +1,8 @@
 use Rattle.std.proofs.Common.{◌≡◌, ℕ, ◌+◌, ◌-◌, ◌≤◌, List, [], ◌∷◌, ◌++◌, refl, ap, sym, ◌∙◌, zero, suc, arith, append_assoc}
 use Rattle.service_model.specs.declared.journal.Entry.{Entry}
 use Rattle.service_model.specs.declared.journal.What.TheVariants.{Answered}
-use Rattle.afs_top.specs.Course.{IsFront, IsPart, answered_lines, begun_entries, entry, stepped_entries}
-use Rattle.afs_top.proofs.Journal.{answered_lines-snoc}
+use Rattle.afs_top.specs.Course.{IsFront, answered_lines, begun_entries, entry, stepped_entries}
+use Rattle.afs_top.proofs.Noting.{answered_lines-snoc}
 
 -- the update is open and no step is answered
 pub none_stepped : begun_entries ≡ stepped_entries 0
@@ -38,8 +38,3 @@ pub stepped_front : (n k : ℕ) → n ≤ k → IsFront (stepped_entries n) (ste
 stepped_front n k few =
     let rest : k ≡ n + (k - n) = omega arith in
     (answered_lines (2 + n) (k - n), ap (λ es. begun_entries ++ es) (sym (answered_lines-add 2 n (k - n)) ∙ ap (answered_lines 2) (sym rest)))
-
--- a part that was noted behind these entries makes a front of all
-pub part_front : (old part all new : List Entry) → IsPart old part new → old ++ part ≡ all → IsFront new all
-part_front old part all new noted whole =
-    (noted.1, ap (λ es. es ++ noted.1) noted.2 ∙ append_assoc old noted.0 noted.1 ∙ ap (λ es. old ++ es) noted.3 ∙ whole)

@@ -15,7 +15,7 @@ use Rattle.afs_top.specs.Course.{is_written_by, entry, held_entries, commit_entr
 use Rattle.afs_top.proofs.Standings.{client_with, update_with, stepped_standing, plain_second, final_standing}
 use Rattle.afs_top.proofs.Standings.{page_tree, plain_state}
 use Rattle.afs_top.specs.Script.{IsRootStep}
-use Rattle.afs_top.proofs.Journal.{reaches_to, stepped_reaches, commit_line, commit_lawful, commit_after, committed_standing, work_with, written_reaches}
+use Rattle.afs_top.proofs.Noting.{reaches_to, stepped_reaches, commit_line, commit_lawful, commit_after, committed_standing, work_with, written_reaches}
 
 has_no_writes : (steps : List Step) → is_written_by steps ≡ false → has_writes (update_with steps) ≡ false
 has_no_writes steps none = ap (λ b. b || false) none

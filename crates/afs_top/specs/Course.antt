@@ -67,10 +67,6 @@ IsCut written line old new = (written ≡ true) × (new ≡ old ++ entry line (H
 abbrev pub IsFront : List Entry → List Entry → Type 0
 IsFront es all = (rest : List Entry) × (es ++ rest ≡ all)
 
--- a front of these entries was noted after those
-abbrev pub IsPart : List Entry → List Entry → List Entry → Type 0
-IsPart old es new = (front rest : List Entry) × (new ≡ old ++ front) × (front ++ rest ≡ es)
-
 -- the steps write something
 abbrev pub is_written_by : List Step → Bool
 is_written_by steps = not (length (all_writes single steps) == 0)

@@ -1,4 +1,5 @@
 pub mod Stop
+pub mod Room
 pub mod Reading
 pub mod Script
 pub mod Served

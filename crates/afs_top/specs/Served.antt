@@ -17,7 +17,7 @@ use Rattle.store_model.specs.Laid.{LaidFile, LaidVersion, last_laid}
 use Rattle.store_model.specs.NewStores.{new_state}
 use Rattle.tree_model.specs.States.{State, Version}
 use Rattle.tree_model.specs.Trees.{Tree}
-use Rattle.version_chain.specs.declared.head.Head.{Head}
+use Rattle.afs_base.specs.declared.head.Head.{Head}
 
 -- the state of the store that is served
 abbrev pub served_state : State

@@ -37,7 +37,9 @@ impl Draft {
         requires { IsRootStep step.now }
         ensures reply { IfOk result (λ reply. reply ≡ reply_of self.old.tree step.now) }
         ensures tree { OnOk result (self.new.tree ≡ after self.old.tree step.now) }
-        ensures written { OnOk result (self.new.flags.written ≡ (self.old.flags.written || not (length (step_writes self.old.tree step.now) == 0))) }
+        ensures written { OnOk result (self.new.flags.written
+            ≡ (self.old.flags.written || not
+            (length (step_writes self.old.tree step.now) == 0))) }
         ensures only { IfErr result (λ e. e ≡ Stop.Memory) }
     {
         self.flags = marked(self.flags, step, &self.tree);
@@ -52,7 +54,8 @@ impl Draft {
 fn marked(flags: Flags, step: &Step, tree: &Tree) -> Flags
     requires root { IsRootStep step.now }
     requires marked { flags.written ≡ true → flags.copied ≡ true }
-    ensures written { result.written ≡ (flags.written || not (length (step_writes tree.now step.now) == 0)) }
+    ensures written { result.written
+        ≡ (flags.written || not (length (step_writes tree.now step.now) == 0)) }
     ensures marked { result.written ≡ true → result.copied ≡ true }
 {
     match step {

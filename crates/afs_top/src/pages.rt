@@ -28,8 +28,10 @@ fn second_page(base: BlockNo, draft: &Draft) -> VersionPage
 /// The page of the second version, as a block.
 pub(crate) fn second_block(base: BlockNo, draft: &Draft) -> Block
     requires { 0 < base }
-    ensures bytes { result ≡ version_bytes (second_page base draft.now.flags (root_data draft.now.tree)) }
-    ensures reads { version_of result ≡ Ok (second_page base draft.now.flags (root_data draft.now.tree)) }
+    ensures bytes { result
+        ≡ version_bytes (second_page base draft.now.flags (root_data draft.now.tree)) }
+    ensures reads { version_of result
+        ≡ Ok (second_page base draft.now.flags (root_data draft.now.tree)) }
 {
     let mut block = [0; 1024];
     encode_version(&second_page(base, draft), &mut block);

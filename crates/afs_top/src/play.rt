@@ -1,14 +1,15 @@
-ghost use Rattle.std.specs.Prelude.{◌≡◌, ◌⊎◌, ◌≤◌, ◌<◌, [], length, List, ℕ, IfSome, IfOk, IfErr, IsErrOf, All, Option, None};
+ghost use Rattle.std.specs.Prelude.{◌≡◌, ◌⊎◌, ◌≤◌, ◌<◌, [], length, List, ℕ, IfSome, IfOk, IfErr, OnOk, IsErrOf, All, Option, None};
 ghost use Rattle.afs_base.specs.Causes.{Rose};
 ghost use Rattle.drives.specs.declared.device.Half.{Half};
 ghost use Rattle.drives.specs.Changes.{halves_seen};
-ghost use Rattle.recovery.specs.Opening.{IsFailed};
-ghost use Rattle.endings.specs.Status.{IsDone};
+ghost use Rattle.drives.specs.Faults.{HasFailed};
+ghost use Rattle.endings.specs.Faults.{HalfFailed};
+ghost use Rattle.store_commands.specs.Opening.{AreAtRest};
+ghost use Rattle.recovery.specs.Opening.{IsFailed, IsNoStore};
 ghost use Rattle.pair_store.specs.Content.{IsSettled, content_of};
 ghost use Rattle.store_model.specs.Found.{found};
-ghost use Rattle.afs_top.specs.Play.{EndsAs, HasScript, IsBeforeOpening, NothingFailed};
-ghost use Rattle.afs_top.specs.Served.{IsReady, IsServed};
-ghost use Rattle.afs_top.specs.Words.{faults_of, left_of};
+ghost use Rattle.afs_top.specs.Play.{EndsAs, EndsOver, HasScript, IsBeforeOpening, PlayCall};
+ghost use Rattle.afs_top.specs.Served.{IsReady};
 ghost use Rattle.afs_top.specs.Script.{IsScript, IsRootStep};
 ghost use Rattle.tree_model.specs.declared.step.Step.{Step};
 
@@ -38,9 +39,13 @@ fn read_steps<S: Source>(alloc: Global, source: &mut S) -> Result<Vec<Step>, Sto
     ensures script { IfOk result (λ steps. HasScript (S.left source.old) steps.items) }
     ensures root { IfOk result (λ steps. All IsRootStep steps.items) }
     ensures few { IfOk result (λ steps. length steps.items ≤ 128) }
-    ensures shape { IsErrOf result Stop.Script → IfSome (S.left source.old) (λ all. (steps : List Step) → IsScript all steps → ⊥) }
+    ensures shape { IsErrOf result Stop.Script
+        → IfSome (S.left source.old) (λ all. (steps : List Step) → IsScript all steps → ⊥) }
     ensures later { S.faults source.old ≤ S.faults source.new }
     ensures cause { IsErrOf result Stop.Source → Rose (S.faults source.old) (S.faults source.new) }
+    ensures kept { OnOk result (S.faults source.new ≡ S.faults source.old) }
+    ensures kept_by_script { IsErrOf result Stop.Script
+        → S.faults source.new ≡ S.faults source.old }
     ensures only { IfErr result (λ e. (e ≡ Stop.Source) ⊎ ((e ≡ Stop.Script) ⊎ (e ≡ Stop.Memory))) }
 {
     let text = read_script(alloc, source)?;
@@ -56,7 +61,8 @@ fn play_opened<B: Blocks, K: Sink>(
     account: &mut Account,
     out: &mut K,
 ) -> Status
-    requires ready { B.tells → IsReady (B.content store.old) (B.size store.old) place.now.base place.now.free }
+    requires ready { B.tells
+        → IsReady (B.content store.old) (B.size store.old) place.now.base place.now.free }
     requires base { place.now.base < B.size store.old }
     requires low { 1 ≤ place.now.base }
     requires free { place.now.free < B.size store.old }
@@ -67,11 +73,22 @@ fn play_opened<B: Blocks, K: Sink>(
     requires entries { account.old.journal.entries.items ≡ [] }
     requires replies { account.old.replies.items ≡ [] }
     requires doubt { account.old.journal.doubt ≡ None }
-    ensures ends { (left : Option (List ℕ)) → HasScript left steps.now → EndsAs B.tells (found (B.content store.old) (B.size store.old)) (found (B.content store.new) (B.size store.new))
-        (λ h. IsFailed (B.faults store.old) (B.faults store.new) (B.last_fault store.new) (B.moment store.new) (B.tells → IsServed (B.content store.old) (B.size store.old) → ⊥) h) left ⊥ (K.written out.old) (K.written out.new) (Rose (K.faults out.old) (K.faults out.new)) account.new.journal result }
+    ensures ends { (left : Option (List ℕ)) → HasScript left steps.now
+        → EndsAs B.tells (found (B.content store.old) (B.size store.old))
+        (found (B.content store.new) (B.size store.new)) (IsFailed (B.faults store.old)
+        (B.faults store.new) (B.last_fault store.new) (B.moment store.new)
+        (B.tells → IsNoStore (B.content store.old) (B.size store.old))) left ⊥ (Unit {0})
+        (K.written out.old) (K.written out.new) (Rose (K.faults out.old) (K.faults out.new))
+        account.new.journal result }
     ensures opened { IsBeforeOpening result → ⊥ }
-    ensures later { (h : Half) → B.faults store.old h ≤ B.faults store.new h }
+    ensures rest { B.tells → B.rest store.old
+        → ((h : Half)
+        → HasFailed (B.faults store.old h) (B.faults store.new h) (B.moment store.new) → ⊥)
+        → B.rest store.new }
+    ensures later { (h : Half) → (B.faults store.old h ≤ B.faults store.new h)
+        × (B.last_fault store.old h ≤ B.last_fault store.new h) }
     ensures size { B.size store.new ≡ B.size store.old }
+    ensures sink_later { K.faults out.old ≤ K.faults out.new }
 {
     match run(alloc, store, place, steps, account) {
         Ok(written) => finish(alloc, out, &account.replies, written),
@@ -87,20 +104,32 @@ fn play_served<V: Drives, K: Sink>(
     account: &mut Account,
     out: &mut K,
 ) -> Played<V>
-    requires ready { V.tells → IsReady (content_of (halves_seen V.seen served.pair.drives)) (V.size served.pair.drives) served.place.base served.place.free }
+    requires ready { V.tells
+        → IsReady (content_of (halves_seen V.seen served.pair.drives)) (V.size served.pair.drives)
+        served.place.base served.place.free }
     requires base { served.place.base < V.size served.pair.drives }
     requires low { 1 ≤ served.place.base }
     requires free { served.place.free < V.size served.pair.drives }
     requires above { 1 ≤ served.place.free }
-    requires settled { V.tells → IsSettled served.place.base (halves_seen V.seen served.pair.drives) }
+    requires settled { V.tells
+        → IsSettled served.place.base (halves_seen V.seen served.pair.drives) }
     requires few { length steps.now ≤ 128 }
     requires root { All IsRootStep steps.now }
     requires entries { account.old.journal.entries.items ≡ [] }
     requires replies { account.old.replies.items ≡ [] }
     requires doubt { account.old.journal.doubt ≡ None }
-    ensures ends { (left : Option (List ℕ)) → HasScript left steps.now → EndsAs V.tells (found (content_of (halves_seen V.seen served.pair.drives)) (V.size served.pair.drives)) (found (content_of (halves_seen V.seen result.drives)) (V.size result.drives))
-        (λ h. IsFailed (V.faults served.pair.drives) (V.faults result.drives) (V.last_fault result.drives) (V.moment result.drives) (V.tells → IsServed (content_of (halves_seen V.seen served.pair.drives)) (V.size served.pair.drives) → ⊥) h) left ⊥ (K.written out.old) (K.written out.new) (Rose (K.faults out.old) (K.faults out.new)) account.new.journal result.status }
+    ensures ends { (left : Option (List ℕ)) → HasScript left steps.now
+        → EndsOver V.Drives served.pair.drives result.drives left ⊥ (Unit {0}) (K.written out.old)
+        (K.written out.new) (Rose (K.faults out.old) (K.faults out.new)) account.new.journal
+        result.status }
     ensures opened { IsBeforeOpening result.status → ⊥ }
+    ensures rest { V.tells → AreAtRest V.Drives served.pair.drives
+        → ((h : Half) → HalfFailed V.moment V.faults h served.pair.drives result.drives → ⊥)
+        → AreAtRest V.Drives result.drives }
+    ensures size { V.size result.drives ≡ V.size served.pair.drives }
+    ensures later { (h : Half) → (V.faults served.pair.drives h ≤ V.faults result.drives h)
+        × (V.last_fault served.pair.drives h ≤ V.last_fault result.drives h) }
+    ensures sink_later { K.faults out.old ≤ K.faults out.new }
 {
     let Served { pair, place } = served;
     let mut pair = pair;
@@ -124,9 +153,18 @@ fn play_steps<V: Drives, K: Sink>(
     requires entries { account.old.journal.entries.items ≡ [] }
     requires replies { account.old.replies.items ≡ [] }
     requires doubt { account.old.journal.doubt ≡ None }
-    ensures ends { (left : Option (List ℕ)) → HasScript left steps.now → EndsAs V.tells (found (content_of (halves_seen V.seen drives)) (V.size drives)) (found (content_of (halves_seen V.seen result.drives)) (V.size result.drives))
-        (λ h. IsFailed (V.faults drives) (V.faults result.drives) (V.last_fault result.drives) (V.moment result.drives) (V.tells → IsServed (content_of (halves_seen V.seen drives)) (V.size drives) → ⊥) h) left ⊥ (K.written out.old) (K.written out.new) (Rose (K.faults out.old) (K.faults out.new)) account.new.journal result.status }
+    ensures ends { (left : Option (List ℕ)) → HasScript left steps.now
+        → EndsOver V.Drives drives result.drives left ⊥ (Unit {0}) (K.written out.old)
+        (K.written out.new) (Rose (K.faults out.old) (K.faults out.new)) account.new.journal
+        result.status }
     ensures opened { IsBeforeOpening result.status → ⊥ }
+    ensures rest { V.tells → AreAtRest V.Drives drives
+        → ((h : Half) → HalfFailed V.moment V.faults h drives result.drives → ⊥)
+        → AreAtRest V.Drives result.drives }
+    ensures size { V.size result.drives ≡ V.size drives }
+    ensures later { (h : Half) → (V.faults drives h ≤ V.faults result.drives h)
+        × (V.last_fault drives h ≤ V.last_fault result.drives h) }
+    ensures sink_later { K.faults out.old ≤ K.faults out.new }
 {
     match open_served(alloc, drives) {
         Ok(served) => play_served(alloc, served, steps, account, out),
@@ -151,9 +189,19 @@ fn serve<V: Drives, S: Source, K: Sink>(
     requires entries { account.old.journal.entries.items ≡ [] }
     requires replies { account.old.replies.items ≡ [] }
     requires doubt { account.old.journal.doubt ≡ None }
-    ensures ends { EndsAs V.tells (found (content_of (halves_seen V.seen drives)) (V.size drives)) (found (content_of (halves_seen V.seen result.drives)) (V.size result.drives))
-        (λ h. IsFailed (V.faults drives) (V.faults result.drives) (V.last_fault result.drives) (V.moment result.drives) (V.tells → IsServed (content_of (halves_seen V.seen drives)) (V.size drives) → ⊥) h) (S.left source.old) (Rose (S.faults source.old) (S.faults source.new)) (K.written out.old) (K.written out.new) (Rose (K.faults out.old) (K.faults out.new)) account.new.journal result.status }
+    ensures ends { EndsOver V.Drives drives result.drives (S.left source.old)
+        (Rose (S.faults source.old) (S.faults source.new))
+        (S.faults source.new ≡ S.faults source.old) (K.written out.old) (K.written out.new)
+        (Rose (K.faults out.old) (K.faults out.new)) account.new.journal result.status }
     ensures untouched { IsBeforeOpening result.status → result.drives ≡ drives }
+    ensures rest { V.tells → AreAtRest V.Drives drives
+        → ((h : Half) → HalfFailed V.moment V.faults h drives result.drives → ⊥)
+        → AreAtRest V.Drives result.drives }
+    ensures size { V.size result.drives ≡ V.size drives }
+    ensures later { (h : Half) → (V.faults drives h ≤ V.faults result.drives h)
+        × (V.last_fault drives h ≤ V.last_fault result.drives h) }
+    ensures source_later { S.faults source.old ≤ S.faults source.new }
+    ensures sink_later { K.faults out.old ≤ K.faults out.new }
 {
     match read_steps(alloc, source) {
         Ok(steps) => play_steps(alloc, drives, &steps, account, out),
@@ -171,21 +219,15 @@ fn serve<V: Drives, S: Source, K: Sink>(
 /// the halves for each.
 pub fn afs_play<V: Drives, S: Source, K: Sink>(
     alloc: Global,
-    order: &[u8],
     drives: V,
+    order: &[u8],
     scripts: &mut [S],
     out: &mut K,
 ) -> Ended<V>
     requires alone { length scripts.old ≡ 1 }
     requires order { order.now ≡ [] }
-    ensures ends { EndsAs V.tells (found (content_of (halves_seen V.seen drives)) (V.size drives)) (found (content_of (halves_seen V.seen result.drives)) (V.size result.drives))
-        (λ h. IsFailed (V.faults drives) (V.faults result.drives) (V.last_fault result.drives) (V.moment result.drives) (V.tells → IsServed (content_of (halves_seen V.seen drives)) (V.size drives) → ⊥) h) (left_of S.left scripts.old) (Rose (faults_of S.faults scripts.old) (faults_of S.faults scripts.new)) (K.written out.old) (K.written out.new) (Rose (K.faults out.old) (K.faults out.new)) result.journal result.status }
-    // Over the store that is served and a script in shape a call ends well where nothing failed, but for want of memory.
-    ensures complete { V.tells → NothingFailed (found (content_of (halves_seen V.seen drives)) (V.size drives))
-        (λ h. IsFailed (V.faults drives) (V.faults result.drives) (V.last_fault result.drives) (V.moment result.drives) (V.tells → IsServed (content_of (halves_seen V.seen drives)) (V.size drives) → ⊥) h)
-        (left_of S.left scripts.old) (Rose (faults_of S.faults scripts.old) (faults_of S.faults scripts.new)) (Rose (K.faults out.old) (K.faults out.new)) → IsDone result.status }
-    // Before the halves are looked at, no call of them is made.
-    ensures untouched { IsBeforeOpening result.status → result.drives ≡ drives }
+    ensures { PlayCall V.Drives S.Source K.Sink drives scripts.old out.old result scripts.new
+        out.new }
 {
     let _ = order;
     let mut account = Account::new(alloc);

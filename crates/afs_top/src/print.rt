@@ -102,7 +102,9 @@ pub(crate) fn finish<K: Sink>(
     written: bool,
 ) -> Status
     requires { length replies.now ≤ 130 }
-    ensures ends { FinishEnds (K.written out.old) (K.written out.new) (Rose (K.faults out.old) (K.faults out.new)) (reply_lines 1 replies.now ++ files_lines written) result }
+    ensures ends { FinishEnds (K.written out.old) (K.written out.new)
+        (Rose (K.faults out.old) (K.faults out.new))
+        (reply_lines 1 replies.now ++ files_lines written) result }
     ensures later { K.faults out.old ≤ K.faults out.new }
 {
     match finished_text(alloc, replies, written) {
@@ -114,7 +116,9 @@ pub(crate) fn finish<K: Sink>(
 /// Prints what a stopped run prints, and says how the call ends.
 pub(crate) fn halt<K: Sink>(alloc: Global, out: &mut K, replies: &[LineReply], stop: Stop) -> Status
     requires { (h : Half) → stop ≡ Stop.Drive h → length replies.now ≤ 130 }
-    ensures ends { HaltEnds (K.written out.old) (K.written out.new) (Rose (K.faults out.old) (K.faults out.new)) (stop_text replies.now stop) (stop_status stop) result }
+    ensures ends { HaltEnds (K.written out.old) (K.written out.new)
+        (Rose (K.faults out.old) (K.faults out.new)) (stop_text replies.now stop)
+        (stop_status stop) result }
     ensures later { K.faults out.old ≤ K.faults out.new }
 {
     match stop {
@@ -139,7 +143,9 @@ pub(crate) fn halt<K: Sink>(alloc: Global, out: &mut K, replies: &[LineReply], s
 /// Prints the answered lines and the half that failed.
 fn halt_drive<K: Sink>(alloc: Global, out: &mut K, replies: &[LineReply], half: Half) -> Status
     requires { length replies.now ≤ 130 }
-    ensures ends { HaltEnds (K.written out.old) (K.written out.new) (Rose (K.faults out.old) (K.faults out.new)) (reply_lines 1 replies.now ++ drive_text half) Status.DriveFault result }
+    ensures ends { HaltEnds (K.written out.old) (K.written out.new)
+        (Rose (K.faults out.old) (K.faults out.new))
+        (reply_lines 1 replies.now ++ drive_text half) Status.DriveFault result }
     ensures later { K.faults out.old ≤ K.faults out.new }
 {
     match stopped_text(alloc, replies, half) {

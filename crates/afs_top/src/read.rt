@@ -16,10 +16,12 @@ const PIECE: usize = 4096;
 /// Takes the next bytes of a source, one at least but at its end, and says whether there were any.
 fn take_piece<S: Source>(text: &mut Vec<u8>, source: &mut S) -> Result<bool, Stop>
     requires { vec_len text.old ≤ 65536 }
-    ensures piece { IfOk result (TakesPiece (S.left source.old) (S.left source.new) text.old.items text.new.items) }
+    ensures piece { IfOk result
+        (TakesPiece (S.left source.old) (S.left source.new) text.old.items text.new.items) }
     ensures most { vec_len text.new ≤ 65537 }
     ensures later { S.faults source.old ≤ S.faults source.new }
     ensures cause { IsErrOf result Stop.Source → Rose (S.faults source.old) (S.faults source.new) }
+    ensures kept { OnOk result (S.faults source.new ≡ S.faults source.old) }
     ensures only { IfErr result (λ e. (e ≡ Stop.Source) ⊎ (e ≡ Stop.Memory)) }
 {
     let mut piece = [0; PIECE];
@@ -38,6 +40,7 @@ pub(crate) fn read_script<S: Source>(alloc: Global, source: &mut S) -> Result<Ve
     ensures taken { IfOk result (λ text. TakesScript (S.left source.old) text.items) }
     ensures later { S.faults source.old ≤ S.faults source.new }
     ensures cause { IsErrOf result Stop.Source → Rose (S.faults source.old) (S.faults source.new) }
+    ensures kept { OnOk result (S.faults source.new ≡ S.faults source.old) }
     ensures only { IfErr result (λ e. (e ≡ Stop.Source) ⊎ (e ≡ Stop.Memory)) }
 {
     let mut text = Vec::new(alloc);

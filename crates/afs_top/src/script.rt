@@ -65,7 +65,9 @@ fn write_of(bytes: Option<PageData>) -> Option<Step>
 
 /// The lines between a first line `begin 1` and a last line `commit`, behind which the text ends.
 fn inner_lines<'a, 'b>(lines: &'a [&'b [u8]]) -> Option<&'a [&'b [u8]]>
-    ensures { MatchOption result ((inner : List (List ℕ)) → IsInner (texts_of lines.now) inner → ⊥) (λ inner. IsInner (texts_of lines.now) (texts_of inner.now)) }
+    ensures { MatchOption result
+        ((inner : List (List ℕ)) → IsInner (texts_of lines.now) inner → ⊥)
+        (λ inner. IsInner (texts_of lines.now) (texts_of inner.now)) }
 {
     let (first, rest) = lines.split_first()?;
     let (end, rest) = rest.split_last()?;
@@ -79,7 +81,8 @@ fn inner_lines<'a, 'b>(lines: &'a [&'b [u8]]) -> Option<&'a [&'b [u8]]>
 
 /// Whether these are the first and the last line of an update, and nothing behind it.
 fn is_update(first: &[u8], last: &[u8], end: &[u8]) -> bool
-    ensures { IsTrue result ↔ ((first.now ≡ codes "begin 1") × (last.now ≡ codes "commit") × (end.now ≡ [])) }
+    ensures { IsTrue result
+        ↔ ((first.now ≡ codes "begin 1") × (last.now ≡ codes "commit") × (end.now ≡ [])) }
 {
     is_text(first, b"begin 1") & is_text(last, b"commit") & end.is_empty()
 }
@@ -93,8 +96,10 @@ pub(crate) fn is_text(line: &[u8], text: &[u8]) -> bool
 
 /// The steps of these lines, at most 128.
 fn steps_of(alloc: Global, lines: &[&[u8]]) -> Result<Vec<Step>, Stop>
-    ensures ok { IfOk result (λ steps. (map step_of (texts_of lines.now) ≡ map Some steps.items) × (vec_len steps ≤ 128) × All IsRootStep steps.items) }
-    ensures script { IsErrOf result Stop.Script → (steps : List Step) → map step_of (texts_of lines.now) ≡ map Some steps → length steps ≤ 128 → ⊥ }
+    ensures ok { IfOk result (λ steps. (map step_of (texts_of lines.now) ≡ map Some steps.items)
+        × (vec_len steps ≤ 128) × All IsRootStep steps.items) }
+    ensures script { IsErrOf result Stop.Script → (steps : List Step)
+        → map step_of (texts_of lines.now) ≡ map Some steps → length steps ≤ 128 → ⊥ }
     ensures only { IfErr result (λ e. (e ≡ Stop.Script) ⊎ (e ≡ Stop.Memory)) }
 {
     if lines.len() > MAX_STEPS {
@@ -121,7 +126,8 @@ fn lines_of(alloc: Global, text: &[u8]) -> Result<Vec<&[u8]>, AllocError>
 /// `commit`, each ended by a line feed, with one space between words.
 pub(crate) fn parse(alloc: Global, text: &[u8]) -> Result<Vec<Step>, Stop>
     ensures ok { IfOk result (λ steps. IsScript text.now steps.items × All IsRootStep steps.items) }
-    ensures script { IsErrOf result Stop.Script → (steps : List Step) → IsScript text.now steps → ⊥ }
+    ensures script { IsErrOf result Stop.Script → (steps : List Step) → IsScript text.now steps
+        → ⊥ }
     ensures only { IfErr result (λ e. (e ≡ Stop.Script) ⊎ (e ≡ Stop.Memory)) }
 {
     if text.len() > MAX_SCRIPT {

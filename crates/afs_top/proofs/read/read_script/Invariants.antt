@@ -1,4 +1,4 @@
-use Rattle.std.proofs.Common.{◌≤◌, ◌-◌, vec_len}
+use Rattle.std.proofs.Common.{◌≡◌, ◌≤◌, ◌-◌, vec_len}
 use Rattle.std.specs.Io.KnownBytes.{Consumes}
 use Rattle.afs_top.proofs.read.read_script.Given as goal
 
@@ -6,7 +6,7 @@ abbrev pub invariant-pieces : goal.invariant-pieces
 invariant-pieces g l = record {
   taken : Consumes (g.S.Source.left l.fn.source) (g.S.Source.left l.source) l.text.items;
   most : vec_len l.text ≤ 65537;
-  later : g.S.Source.faults l.fn.source ≤ g.S.Source.faults l.source;
+  kept : g.S.Source.faults l.source ≡ g.S.Source.faults l.fn.source;
 }
 
 abbrev pub decreases-pieces : goal.decreases-pieces

@@ -1,7 +1,7 @@
-use Rattle.std.proofs.Common.{◌≡◌, ℕ, ◌+◌, ◌-◌, ◌<◌, length, List, Option, Some, sym, subst, ap, ◌∙◌, arith, refl, get_or}
+use Rattle.std.proofs.Common.{◌≡◌, ℕ, ◌+◌, ◌-◌, ◌<◌, length, Option, subst, ap, ◌∙◌, arith, refl, get_or}
 use Rattle.std.proofs.lemmas.Option.{slice_get_within, slice_get_read}
 use Rattle.page_codec.specs.Values.{EntryValue}
-use Rattle.version_chain.specs.declared.head.Head.{Head}
+use Rattle.afs_base.specs.declared.head.Head.{Head}
 use Rattle.afs_top.specs.Served.{IsNewFile}
 use Rattle.afs_top.proofs.NewTest.{one_more}
 use Rattle.afs_top.proofs.served.are_new_files.Goals as goal

@@ -1,6 +1,6 @@
 use Rattle.std.proofs.Common.{◌≡◌, ℕ, ◌+◌, ◌<◌, Option, Some, slice_get}
 use Rattle.page_codec.specs.Values.{EntryValue}
-use Rattle.version_chain.specs.declared.head.Head.{Head}
+use Rattle.afs_base.specs.declared.head.Head.{Head}
 use Rattle.afs_top.specs.Served.{IsNewFile}
 use Rattle.afs_top.proofs.served.are_new_files.Given as goal
 

@@ -1,8 +1,8 @@
 use mathlib.Core.Path.{fun_ext}
-use Rattle.std.proofs.Common.{◌≡◌, ℕ, ◌<◌, ◌≤◌, List, Option, sym, ap, subst, ◌∙◌, arith, true≢false}
-use Rattle.afs_top.specs.Served.{IsNewTable, IsReady}
+use Rattle.std.proofs.Common.{◌≡◌, ℕ, ◌<◌, List, Option, sym, subst, ◌∙◌, arith, true≢false}
+use Rattle.afs_top.specs.Served.{IsReady}
 use Rattle.afs_top.proofs.NewTest.{table_if}
-use Rattle.afs_top.proofs.Placing.{Live, blank_read, has_block, live_at, live_some, live_within, ready_is, served_state_is}
+use Rattle.afs_top.proofs.Placing.{blank_read, has_block, live_at, live_some, live_within, ready_is, served_state_is}
 use Rattle.afs_top.proofs.Room.{room}
 use Rattle.afs_top.proofs.served.find_place.Goals as goal
 

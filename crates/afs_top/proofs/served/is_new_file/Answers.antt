@@ -1,4 +1,4 @@
-use Rattle.std.proofs.Common.{◌≡◌, nat_le, true, arith}
+use Rattle.std.proofs.Common.{◌≡◌, nat_le, true}
 use Rattle.std.proofs.lemmas.Bool.{le-leb}
 use Rattle.afs_top.proofs.NewTest.{live_is}
 use Rattle.afs_top.proofs.served.is_new_file.Goals as goal

@@ -9,7 +9,7 @@ use Rattle.tree_model.specs.Accesses.{step_writes}
 use Rattle.tree_model.specs.Trees.{Tree, after, reply_of, single, tree_after}
 use Rattle.afs_top.specs.Course.{entry, is_written_by, step_answers, stepped_entries}
 use Rattle.afs_top.proofs.Halves.{of_err}
-use Rattle.afs_top.proofs.Journal.{answers_more, is_written_by-snoc, tree_after-snoc}
+use Rattle.afs_top.proofs.Noting.{answers_more, is_written_by-snoc, tree_after-snoc}
 use Rattle.afs_top.proofs.StepLoop.{none_stepped, stepped_more}
 use Rattle.afs_top.proofs.update.take_steps.Goals as goal
 

@@ -1,4 +1,4 @@
-use Rattle.std.proofs.Common.{ℕ, List, Option, ◌≡◌, ap, subst, sym, ◌∙◌}
+use Rattle.std.proofs.Common.{ℕ, List, ap, subst, sym, ◌∙◌}
 use Rattle.std.specs.List.{slice_index}
 use Rattle.store_model.specs.Found.{found}
 use Rattle.afs_top.specs.Served.{HasNext, root_data, second_page}

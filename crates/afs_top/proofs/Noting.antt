@@ -322,7 +322,7 @@ written_lawful steps at root written =
     (refl, subst F (sym (has_writes_is steps written)) (committable steps root written), omega arith)
 
 -- the commit makes the second version
-written_after : (steps : List Step) (at : ℕ) → All IsRootStep steps → is_written_by steps ≡ true
+pub written_after : (steps : List Step) (at : ℕ) → All IsRootStep steps → is_written_by steps ≡ true
     → after_what (held_standing steps) 1 Commit (Committed (named 2 ∷ []) at) ≡ committed_standing steps (written_notes at) at (plain_second steps) (second_made steps)
 written_after steps at root written = rw (written_works_is steps written, root_fresh steps root written) refl
 
