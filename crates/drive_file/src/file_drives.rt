@@ -3,16 +3,14 @@ ghost use Rattle.std.specs.Prelude.{◌≡◌, ℕ, ◌+◌, ◌-◌, ◌*◌, �
 ghost use Rattle.drives.specs.declared.device.Half.{Half};
 ghost use Rattle.drives.specs.Half.{other, one_of};
 ghost use Rattle.drives.specs.Faults.{HasFault};
+ghost use Rattle.drives.specs.Bytes.{IsBytes};
 ghost use Rattle.drives.specs.Crash.{Ticks};
 
 use crate::file_half::FileHalf;
-use afs_base::Failed;
+use afs_base::{Failed, MAX_BLOCKS};
 use drives::{Drives, Half};
 use std::fs::{File, Files};
 use thiserror::Error;
-
-/// How many blocks of 1024 bytes a half in a file has at the most, and is said to have: files grow as they are written.
-const BLOCKS: u32 = 65536;
 
 /// The file of this half could not be opened; half A is tried first.
 #[derive(Clone, Copy, Debug, Error)]
@@ -21,7 +19,8 @@ pub struct NoFile {
     pub half: Half,
 }
 
-/// Two halves in files, each from its file's first byte on. They tell no bytes: what a real file holds is not claimed.
+/// Two halves in files, each from its file's first byte on. They tell no bytes: what a real file
+/// holds is not claimed.
 #[derive(Drop)]
 pub struct FileDrives {
     a: FileHalf,
@@ -35,7 +34,8 @@ pub struct FileDrives {
 impl FileDrives {
     /// Opens the files of these names. A file that is not there is made, with no bytes.
     pub fn open<R: Files<File = File>>(rt: &R, a: &str, b: &str) -> Result<FileDrives, NoFile>
-        ensures fresh { IfOk result (λ d. (⟦<FileDrives as Drives>⟧.moment d ≡ 0) × ((h : Half) → ⟦<FileDrives as Drives>⟧.faults d h ≡ 0)) }
+        ensures fresh { IfOk result (λ d. (⟦<FileDrives as Drives>⟧.moment d ≡ 0)
+            × ((h : Half) → ⟦<FileDrives as Drives>⟧.faults d h ≡ 0)) }
     {
         let a = FileHalf::open(rt, a).map_err(|_| NoFile { half: Half::A })?;
         let b = FileHalf::open(rt, b).map_err(|_| NoFile { half: Half::B })?;
@@ -54,9 +54,12 @@ impl FileDrives {
     // A call of a half has returned; a moment passes, but at the clock's end.
     fn count(&mut self, half: Half, done: Result<(), Failed>)
         ensures time { Ticks self.old.time self.new.time }
-        ensures cause { HasFault (one_of self.old.a.faults self.old.b.faults half) (one_of self.new.a.faults self.new.b.faults half)
-            (one_of self.old.a.last self.old.b.last half) (one_of self.new.a.last self.new.b.last half) self.new.time done }
-        ensures other { one_of self.new.a self.new.b (other half) ≡ one_of self.old.a self.old.b (other half) }
+        ensures cause { HasFault (one_of self.old.a.faults self.old.b.faults half)
+            (one_of self.new.a.faults self.new.b.faults half)
+            (one_of self.old.a.last self.old.b.last half)
+            (one_of self.new.a.last self.new.b.last half) self.new.time done }
+        ensures other { one_of self.new.a self.new.b (other half) ≡ one_of self.old.a self.old.b
+            (other half) }
     {
         self.time = self.time.saturating_add(1);
         match half {
@@ -75,14 +78,15 @@ impl Drives for FileDrives {
 
     ghost seen = { λ d h. [] };
 
-    ghost may_leave = { λ d h t c. length c ≡ 1024 * 65536 };
+    ghost may_leave = { λ d h t c. (length c ≡ 1024 * 65536) × IsBytes c };
 
     ghost faults = { λ d h. one_of d.a.faults d.b.faults h };
 
     ghost last_fault = { λ d h. one_of d.a.last d.b.last h };
 
+    // As many as a half has at the most: files grow as they are written.
     fn blocks(&self) -> u32 {
-        BLOCKS
+        MAX_BLOCKS
     }
 
     fn now(&self) -> u64 {
@@ -126,7 +130,11 @@ impl Drives for FileDrives {
 
     ghost whole = { λ d h told. absurd told };
 
-    ghost left_whole = { λ d h c left. left };
+    ghost left_whole = { λ d h c left. left.0 };
+
+    ghost seen_bytes = { λ d h told. absurd told };
+
+    ghost left_bytes = { λ d h t c left. left.1 };
 
     ghost left_read = { λ d h told. absurd told };
 }

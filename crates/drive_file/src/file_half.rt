@@ -1,5 +1,5 @@
 // One half in a file, with its count of faults.
-ghost use Rattle.std.specs.Prelude.{◌≡◌, ◌-◌, ◌^◌, ◌≤◌, IfOk};
+ghost use Rattle.std.specs.Prelude.{◌≡◌, ◌+◌, ◌-◌, ◌^◌, ◌<◌, ◌≤◌, length, IfOk};
 ghost use Rattle.drives.specs.Faults.{HasFault};
 
 use afs_base::Failed;
@@ -21,7 +21,8 @@ fn failed<T: Drop>(done: io::Result<T>) -> Result<T, Failed> {
 }
 
 impl FileHalf {
-    /// Opens the file of this name for reading and writing, and makes an empty one where there is none.
+    /// Opens the file of this name for reading and writing, and makes an empty one where there is
+    /// none.
     pub fn open<R: Files<File = File>>(rt: &R, name: &str) -> io::Result<FileHalf>
         ensures { IfOk result (λ half. (half.faults ≡ 0) × (half.last ≡ 0)) }
     {
@@ -37,14 +38,35 @@ impl FileHalf {
         })
     }
 
-    /// Fills `buf` with the file's bytes from offset `at` on.
-    pub fn read(&self, at: u64, buf: &mut [u8]) -> Result<(), Failed> {
-        buf.fill(0);
-        match self.file.read_exact_at(buf, at) {
-            Ok(()) => Ok(()),
-            Err(e) if e.kind() == ErrorKind::UnexpectedEof => Ok(()),
-            Err(_) => Err(Failed),
+    // Reads from offset `at` on until the buffer is full or the file ends, and answers how many
+    // bytes there were.
+    fn read_up_to(&self, at: u64, buf: &mut [u8]) -> Result<usize, Failed>
+        requires { at + length buf.old < 2 ^ 64 }
+        ensures { IfOk result (λ n. n ≤ length buf.new) }
+    {
+        let mut filled = 0;
+        for _ in 0..u64::MAX {
+            if filled == buf.len() {
+                return Ok(filled);
+            }
+            match self.file.read_at(&mut buf[filled..], at + filled as u64) {
+                Ok(0) => return Ok(filled),
+                Ok(n) => filled += n,
+                Err(e) if e.kind() == ErrorKind::Interrupted => {}
+                Err(_) => return Err(Failed),
+            }
         }
+        Err(Failed)
+    }
+
+    /// Fills `buf` with the file's bytes from offset `at` on, and with zeros past the file's end.
+    /// After `Failed` the buffer holds anything.
+    pub fn read(&self, at: u64, buf: &mut [u8]) -> Result<(), Failed>
+        requires { at + length buf.old < 2 ^ 64 }
+    {
+        let filled = self.read_up_to(at, buf)?;
+        buf[filled..].fill(0);
+        Ok(())
     }
 
     /// Writes over the file's bytes from offset `at` on.

@@ -1,7 +1,8 @@
-//! The edge to the system's files and to standard output: two halves in files, a script in a file, and a sink that prints.
+//! The edge to the system's files and to standard output: two halves in files, a script in a file,
+//! and a sink that prints.
 //!
-//! What real files hold is not claimed: these types tell no bytes. Their calls are proved to be safe and to count their
-//! faults as the traits say.
+//! What real files hold is not claimed: these types tell no bytes. Their calls are proved to be
+//! safe and to count their faults as the traits say.
 #![tactic(auto)]
 
 mod file_drives;
