@@ -1,4 +1,4 @@
-use caps::{BadHex, Capability, DeniedWhy, grant, mint, restrict};
+use caps::{BadHex, Capability, Denied, DeniedWhy, grant, mint, restrict};
 use page_codec::{Table, decode_root};
 use std::alloc::Global;
 use std::test::Fail;
@@ -34,98 +34,111 @@ fn table_of(alloc: Global, head: &[u8]) -> Result<Table, Fail> {
 fn large_table(alloc: Global) -> Result<Table, Fail> {
     let mut table = table_of(alloc, &LARGE_STORE)?;
     let small = table_of(alloc, &NEW_STORE)?;
-    if small.entries().len() > 0 && table.entries().len() == 4032 && table.format() == 2 {
-        table.set_entry(4032, small.entries()[0]);
+    let first = small.entries().first().copied().ok_or("no entry")?;
+    if table.format() == 2 {
+        table.set_entry(4032, first);
     }
     Ok(table)
 }
 
+const NO_OBJECT: Denied = Denied {
+    why: DeniedWhy::NoObject,
+};
+
+const CHECK: Denied = Denied {
+    why: DeniedWhy::Check,
+};
+
+const RIGHTS: Denied = Denied {
+    why: DeniedWhy::Rights,
+};
+
+/// A capability, a need, and what it grants.
+type Grant = (&'static [u8], u8, Result<u32, Denied>);
+
+const GRANTS: [Grant; 13] = [
+    (ALL_RIGHTS, 7, Ok(1)),
+    (b"616d6f65626100000207885931e277e0", 7, Ok(2)),
+    (READING, 1, Ok(1)),
+    (READING, 0, Ok(1)),
+    (READING, 2, Err(RIGHTS)),
+    (READING, 3, Err(RIGHTS)),
+    // another last digit; a right more, with the check of fewer; an object's check on another
+    (b"616d6f6562610000010115d8e398af1c", 2, Err(CHECK)),
+    (b"616d6f6562610000010315d8e398af1b", 8, Err(CHECK)),
+    (b"616d6f6562610000020115d8e398af1b", 1, Err(CHECK)),
+    // another port; no object 0; object 3 is not live; a number past the table, with a check that fits no object
+    (b"616d6f6562620000010115d8e398af1c", 2, Err(NO_OBJECT)),
+    (b"616d6f6562610000000115d8e398af1c", 2, Err(NO_OBJECT)),
+    (b"616d6f6562610000030115d8e398af1c", 2, Err(NO_OBJECT)),
+    (b"616d6f65626100003d07cb8f3b223a81", 1, Err(NO_OBJECT)),
+];
+
 #[test]
 fn grants_in_order(rt: HostRuntime) -> Result<(), Fail> {
     let table = table_of(rt.alloc(), &NEW_STORE)?;
-    let cases: [(&[u8], u8, Result<u32, DeniedWhy>); 13] = [
-        (ALL_RIGHTS, 7, Ok(1)),
-        (b"616d6f65626100000207885931e277e0", 7, Ok(2)),
-        (READING, 1, Ok(1)),
-        (READING, 0, Ok(1)),
-        (READING, 2, Err(DeniedWhy::Rights)),
-        (READING, 3, Err(DeniedWhy::Rights)),
-        // another last digit; a right more, with the check of fewer; an object's check on another
-        (
-            b"616d6f6562610000010115d8e398af1c",
-            2,
-            Err(DeniedWhy::Check),
-        ),
-        (
-            b"616d6f6562610000010315d8e398af1b",
-            8,
-            Err(DeniedWhy::Check),
-        ),
-        (
-            b"616d6f6562610000020115d8e398af1b",
-            1,
-            Err(DeniedWhy::Check),
-        ),
-        // another port; no object 0; object 3 is not live; a number past the table, with a check that fits no object
-        (
-            b"616d6f6562620000010115d8e398af1c",
-            2,
-            Err(DeniedWhy::NoObject),
-        ),
-        (
-            b"616d6f6562610000000115d8e398af1c",
-            2,
-            Err(DeniedWhy::NoObject),
-        ),
-        (
-            b"616d6f6562610000030115d8e398af1c",
-            2,
-            Err(DeniedWhy::NoObject),
-        ),
-        (
-            b"616d6f65626100003d07cb8f3b223a81",
-            1,
-            Err(DeniedWhy::NoObject),
-        ),
-    ];
-    for (text, need, answer) in cases {
+    for (text, need, answer) in GRANTS.iter() {
         let cap = Capability::of_hex(text)?;
-        assert_eq!(rt;
-            grant(&table, &cap, need).map_err(|denied| denied.why),
-            answer
-        );
+        assert_eq!(rt; grant(&table, &cap, *need), *answer);
     }
     Ok(())
 }
 
+/// An object, rights, and the capability of them.
+const MINTS: [(u32, u8, Option<&[u8]>); 5] = [
+    (1, 7, Some(ALL_RIGHTS)),
+    (1, 1, Some(READING)),
+    (0, 7, None),
+    (3, 7, None),
+    (61, 7, None),
+];
+
 #[test]
-fn mints_and_restricts(rt: HostRuntime) -> Result<(), Fail> {
+fn mints_what_is_live(rt: HostRuntime) -> Result<(), Fail> {
     let table = table_of(rt.alloc(), &NEW_STORE)?;
-    let full = Capability::of_hex(ALL_RIGHTS)?;
-    let reading = Capability::of_hex(READING)?;
-    assert_eq!(rt; mint(&table, 1, 7), Some(full));
-    assert_eq!(rt; mint(&table, 1, 1), Some(reading));
-    assert_eq!(rt; mint(&table, 0, 7), None);
-    assert_eq!(rt; mint(&table, 3, 7), None);
-    assert_eq!(rt; mint(&table, 61, 7), None);
-    assert_eq!(rt;
-        restrict(&table, &full, 9).map_err(|denied| denied.why),
-        Ok(reading)
-    );
-    let forged = Capability::of_hex(b"616d6f6562610000010115d8e398af1c")?;
-    assert_eq!(rt;
-        restrict(&table, &forged, 0).map_err(|denied| denied.why),
-        Err(DeniedWhy::Check)
-    );
-    let gone = Capability::of_hex(b"616d6f6562610000030115d8e398af1c")?;
-    assert_eq!(rt;
-        restrict(&table, &gone, 0).map_err(|denied| denied.why),
-        Err(DeniedWhy::NoObject)
-    );
-    let last = Capability::of_hex(b"616d6f656261000fc0ffecec231d7010")?;
-    assert_eq!(rt; mint(&large_table(rt.alloc())?, 4032, 255), Some(last));
+    for (object, rights, text) in MINTS.iter() {
+        let cap = mint(&table, *object, *rights);
+        match text {
+            Some(text) => assert_eq!(rt; cap, Some(Capability::of_hex(text)?)),
+            None => assert_eq!(rt; cap, None),
+        }
+    }
+    let last = mint(&large_table(rt.alloc())?, 4032, 255);
+    let text = b"616d6f656261000fc0ffecec231d7010";
+    assert_eq!(rt; last, Some(Capability::of_hex(text)?));
     Ok(())
 }
+
+/// A capability, a mask, and the capability that is left, or why there is none.
+type Restrict = (&'static [u8], u8, Result<&'static [u8], Denied>);
+
+const RESTRICTS: [Restrict; 3] = [
+    (ALL_RIGHTS, 9, Ok(READING)),
+    (b"616d6f6562610000010115d8e398af1c", 0, Err(CHECK)),
+    (b"616d6f6562610000030115d8e398af1c", 0, Err(NO_OBJECT)),
+];
+
+#[test]
+fn restricts(rt: HostRuntime) -> Result<(), Fail> {
+    let table = table_of(rt.alloc(), &NEW_STORE)?;
+    for (text, mask, answer) in RESTRICTS.iter() {
+        let less = restrict(&table, &Capability::of_hex(text)?, *mask);
+        match answer {
+            Ok(text) => assert_eq!(rt; less.ok(), Capability::of_hex(text).ok()),
+            Err(denied) => assert_eq!(rt; less, Err(*denied)),
+        }
+    }
+    Ok(())
+}
+
+/// A text that is no capability, and where it is wrong.
+const BAD: [(&[u8], usize); 5] = [
+    (b"", 0),
+    (b"616d6f6562610000010115d8e398af1", 31),
+    (b"616d6f6562610000010115d8e398af1b0", 33),
+    (b"616d6f65626100000107f435295ecg5g", 29),
+    (b"x16d6f6562610000010115d8e398af1b", 0),
+];
 
 #[test]
 fn reads_and_writes_text(rt: HostRuntime) -> Result<(), Fail> {
@@ -137,15 +150,8 @@ fn reads_and_writes_text(rt: HostRuntime) -> Result<(), Fail> {
     assert_eq!(rt; cap.port(), *b"amoeba");
     assert_eq!(rt; (cap.object(), cap.rights()), (1, 1));
     assert_eq!(rt; cap.check(), [0x15, 0xD8, 0xE3, 0x98, 0xAF, 0x1B]);
-    let cases: [(&[u8], usize); 5] = [
-        (b"", 0),
-        (b"616d6f6562610000010115d8e398af1", 31),
-        (b"616d6f6562610000010115d8e398af1b0", 33),
-        (b"616d6f65626100000107f435295ecg5g", 29),
-        (b"x16d6f6562610000010115d8e398af1b", 0),
-    ];
-    for (text, at) in cases {
-        assert_eq!(rt; Capability::of_hex(text).err(), Some(BadHex { at }));
+    for (text, at) in BAD.iter() {
+        assert_eq!(rt; Capability::of_hex(text).err(), Some(BadHex { at: *at }));
     }
     Ok(())
 }

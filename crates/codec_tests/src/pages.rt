@@ -1,5 +1,6 @@
 ghost use Rattle.std.specs.Prelude.{◌<◌, IfSome};
 
+use afs_base::BlockNo;
 use page_codec::*;
 use std::process::Abort;
 
@@ -68,6 +69,9 @@ fn block_of(rt: &impl Abort, text: &str) -> Block {
 }
 
 /// A block's number, 0 where there is none.
-fn number_of(block: Option<afs_base::BlockNo>) -> u32 {
-    block.map_or(0, |block| block.get())
+fn number_of(block: Option<BlockNo>) -> u32 {
+    match block {
+        Some(block) => block.get(),
+        None => 0,
+    }
 }

@@ -1,8 +1,8 @@
 use afs_base::{ClientNo, Failed, Kind, PageData, Path, Slot};
 use caps::{Capability, Denied, DeniedWhy};
 use script_text::{
-    Command, FileName, Files17, LineRefusal, LineReply, LineWhy, MemSink, MemSource, Mode, Script,
-    ScriptRefused, Serials, Sink, Source, parse, print_reply,
+    Command, FileName, Files17, Line, LineRefusal, LineReply, LineWhy, MemSink, MemSource, Mode,
+    Script, ScriptRefused, Serials, Sink, Source, parse, print_reply,
 };
 use std::alloc::{AllocError, Global};
 use std::process::Abort;
@@ -10,19 +10,11 @@ use std::test::Fail;
 use tree_model::{Child, Reply, Step};
 
 mod causes;
-mod limits;
 mod lines;
 mod replies;
 
 fn bad(line: u32, why: LineWhy) -> ScriptRefused {
     ScriptRefused::BadLine { line, why }
-}
-
-/// A text of `n` bytes `fill` with another text behind it.
-fn filled(alloc: Global, fill: u8, n: usize, rest: &[u8]) -> Result<Vec<u8>, AllocError> {
-    let mut text = vec![in alloc; fill; n]?;
-    text.extend_from_slice(rest)?;
-    Ok(text)
 }
 
 #[test]

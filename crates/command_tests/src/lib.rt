@@ -1,8 +1,6 @@
-//! Tests of the commands, over their public calls.
+//! Tests of whole calls, each through the top call.
 //! They stand in a crate of their own, since a crate that has tests is proved a second time with them.
 #![tactic(auto)]
 
 #[cfg(test)]
 mod calls;
-#[cfg(test)]
-mod commands;

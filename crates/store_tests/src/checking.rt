@@ -1,30 +1,12 @@
 //! Stores made by hand: a file with two versions, a member that is not linked yet, and each cause once.
-ghost use Rattle.std.specs.Prelude.{◌≡◌, ◌*◌, length, IfOk};
-
+use crate::patched::{Patch, history_drives};
 use afs_base::BlockNo;
-use drives::MemDrives;
-use page_codec::{Why, fresh_image};
+use page_codec::Why;
 use pair_store::Pair;
-use std::alloc::{AllocError, Global};
+use std::alloc::Global;
 use std::process::Abort;
 use std::test::Fail;
-use store_check::{Chain, CheckRefused, check};
-
-/// Bytes to be put at an offset.
-type Patch = (usize, &'static [u8]);
-
-/// Files 1 to 3 in blocks 1 to 3. File 1 has a second version in block 4. File 3 names a second version of file 2 as its
-/// member, in block 5, to which no link was set.
-const HISTORY: [Patch; 8] = [
-    (1024 + 82, &[0, 0, 0, 4]),
-    (4096 + 3, &[7]),
-    (4096 + 81, &[2]),
-    (4096 + 86, &[0, 0, 0, 1]),
-    (3072 + 90, &[1, 0, 0, 0, 2, 0, 0, 0, 5]),
-    (5120 + 3, &[7]),
-    (5120 + 81, &[2]),
-    (5120 + 86, &[0, 0, 0, 2]),
-];
+use store_check::{Chain, CheckRefused, Checked, check};
 
 /// A page at `/0` of the second version of file 1, in block 6.
 const PAGE: [Patch; 2] = [(4096 + 4, &[0x10, 0, 0, 6]), (6144, &[0xA5, 0x50, 1])];
@@ -150,58 +132,20 @@ const PART_CASES: [Case; 14] = [
     (&[(272, &[1])], Some((0, Why::Zero))),
 ];
 
-fn put(half: &mut Vec<u8>, at: usize, bytes: &[u8])
-    ensures { length half.new.items ≡ length half.old.items }
-{
-    'bytes: for k in 0..bytes.len() {
-        if k < half.len() && at < half.len() - k {
-            half[at + k] = bytes[k];
-        }
-    }
+/// What a store with these bytes is checked as.
+fn checked(
+    alloc: Global,
+    base: &[Patch],
+    patches: &[Patch],
+) -> Result<Result<Checked, CheckRefused>, Fail> {
+    let drives = history_drives(alloc, base, patches, patches)?;
+    let (_pair, checked) = check(alloc, Pair::over(drives));
+    Ok(checked)
 }
 
-fn put_all(half: &mut Vec<u8>, patches: &[Patch])
-    ensures { length half.new.items ≡ length half.old.items }
-{
-    'patches: for patch in patches {
-        put(half, patch.0, patch.1);
-    }
-}
-
-fn copy_block(half: &mut Vec<u8>, from: usize, to: usize)
-    ensures { length half.new.items ≡ length half.old.items }
-{
-    'bytes: for k in 0..1024 {
-        if from <= 7168 && to <= 7168 && half.len() == 8192 {
-            half[to + k] = half[from + k];
-        }
-    }
-}
-
-fn half_with(alloc: Global, base: &[Patch], patches: &[Patch]) -> Result<Vec<u8>, AllocError>
-    ensures { IfOk result (λ half. length half.items ≡ 1024 * 8) }
-{
-    let mut half = fresh_image(alloc, 3, 8, 7)?;
-    half.resize(8192, 0)?;
-    copy_block(&mut half, 1024, 4096);
-    copy_block(&mut half, 2048, 5120);
-    put_all(&mut half, &HISTORY);
-    put_all(&mut half, base);
-    put_all(&mut half, patches);
-    Ok(half)
-}
-
-fn pair_with(alloc: Global, base: &[Patch], patches: &[Patch]) -> Result<Pair<MemDrives>, Fail> {
-    let a = half_with(alloc, base, patches)?;
-    let b = half_with(alloc, base, patches)?;
-    Ok(Pair::over(MemDrives::of_halves(alloc, a, b)?))
-}
-
-/// Why a store with these bytes is refused.
+/// Why a store with these bytes is refused, where it is.
 fn refused(alloc: Global, base: &[Patch], patches: &[Patch]) -> Result<Option<CheckRefused>, Fail> {
-    let pair = pair_with(alloc, base, patches)?;
-    let (_pair, checked) = check(alloc, pair);
-    Ok(checked.err())
+    Ok(checked(alloc, base, patches)?.err())
 }
 
 fn bad(cause: &Option<(u32, Why)>) -> Result<Option<CheckRefused>, Fail> {
@@ -232,27 +176,42 @@ fn each_cause_is_found(rt: HostRuntime) -> Result<(), Fail> {
     are_found(&rt, alloc, &PARTS, &PART_CASES)
 }
 
-/// What is kept of a file: the block of its last version, the serial of its first one, the block of the version whose link to the
-/// last one is outstanding, and how many blocks its versions hold.
+/// What is kept of a file: the block of its last version, the serial of its first one, the block of
+/// the version whose link to the last one is outstanding, and how many blocks its versions hold.
 type Kept = (u32, u64, Option<u32>, u32);
 
-/// What is kept of files 1 to 3, and how many blocks are free.
-const KEPT: [(&[Patch], [Kept; 3], u32); 4] = [
+/// What is kept of files 1 to 4, of which the last is not live, and how many blocks are free.
+const KEPT: [(&[Patch], [Option<Kept>; 4], u32); 4] = [
     (
         &[],
-        [(4, 1, None, 2), (5, 1, Some(2), 2), (3, 1, None, 1)],
+        [
+            Some((4, 1, None, 2)),
+            Some((5, 1, Some(2), 2)),
+            Some((3, 1, None, 1)),
+            None,
+        ],
         2,
     ),
     // The link is set.
     (
         &[(2048 + 82, &[0, 0, 0, 5])],
-        [(4, 1, None, 2), (5, 1, None, 2), (3, 1, None, 1)],
+        [
+            Some((4, 1, None, 2)),
+            Some((5, 1, None, 2)),
+            Some((3, 1, None, 1)),
+            None,
+        ],
         2,
     ),
     // Version 2 of file 1 has a page of its own in block 6.
     (
         &[(4096 + 4, &[0x10, 0, 0, 6]), (6144, &[0xA5, 0x50, 1])],
-        [(4, 1, None, 3), (5, 1, Some(2), 2), (3, 1, None, 1)],
+        [
+            Some((4, 1, None, 3)),
+            Some((5, 1, Some(2), 2)),
+            Some((3, 1, None, 1)),
+            None,
+        ],
         1,
     ),
     // Both versions of file 1 have the page in block 6, which counts once.
@@ -262,34 +221,41 @@ const KEPT: [(&[Patch], [Kept; 3], u32); 4] = [
             (4096 + 4, &[0, 0, 0, 6]),
             (6144, &[0xA5, 0x50, 1]),
         ],
-        [(4, 1, None, 3), (5, 1, Some(2), 2), (3, 1, None, 1)],
+        [
+            Some((4, 1, None, 3)),
+            Some((5, 1, Some(2), 2)),
+            Some((3, 1, None, 1)),
+            None,
+        ],
         1,
     ),
 ];
 
-fn kept_of(chain: &Option<Chain>) -> Option<Kept> {
-    chain.as_ref().map(|chain| {
-        (
-            chain.last.block.get(),
-            chain.first,
-            chain.unset.map(|block| block.get()),
-            chain.kept,
-        )
-    })
+fn kept_of(chain: &Chain) -> Kept {
+    (
+        chain.last.block.get(),
+        chain.first,
+        chain.unset.map(|block| block.get()),
+        chain.kept,
+    )
+}
+
+/// What is kept of the first four files, and how many blocks are free.
+fn told_of(checked: &Checked) -> ([Option<Kept>; 4], u32) {
+    let mut kept = [None; 4];
+    'files: for i in 0..4 {
+        if i < checked.heads.len() {
+            kept[i] = checked.heads[i].as_ref().map(kept_of);
+        }
+    }
+    (kept, checked.map.free())
 }
 
 #[test]
 fn what_is_kept_of_each_file(rt: HostRuntime) -> Result<(), Fail> {
     'cases: for (patches, kept, free) in &KEPT {
-        let pair = pair_with(rt.alloc(), &[], patches)?;
-        let (_pair, checked) = check(rt.alloc(), pair);
-        let checked = checked?;
-        assert_eq!(rt; checked.map.free(), *free);
-        assert_eq!(rt; checked.heads.len(), 60);
-        'files: for i in 0..3 {
-            assert_eq!(rt; kept_of(&checked.heads[i]), Some(kept[i]));
-        }
-        assert_eq!(rt; kept_of(&checked.heads[3]), None);
+        let checked = checked(rt.alloc(), &[], patches)??;
+        assert_eq!(rt; told_of(&checked), (*kept, *free));
     }
     Ok(())
 }

@@ -95,6 +95,10 @@ impl Drives for Untold {
 
     ghost left_whole = { λ d h c left. absurd left };
 
+    ghost seen_bytes = { λ d h told. absurd told };
+
+    ghost left_bytes = { λ d h t c left. absurd left };
+
     ghost left_read = { λ d h told. absurd told };
 }
 

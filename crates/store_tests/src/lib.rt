@@ -17,4 +17,6 @@ mod new_stores;
 #[cfg(test)]
 mod openings;
 #[cfg(test)]
+mod patched;
+#[cfg(test)]
 mod stable_blocks;

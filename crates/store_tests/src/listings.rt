@@ -1,16 +1,11 @@
 //! Versions made by hand: pages with data and without, seven levels, and each cause once.
-ghost use Rattle.std.specs.Prelude.{◌≡◌, ◌*◌, length, IfOk};
-
+use crate::patched::{Patch, plain_drives};
 use afs_base::BlockNo;
-use drives::MemDrives;
-use page_codec::{Why, fresh_image};
+use page_codec::Why;
 use pair_store::Pair;
-use std::alloc::{AllocError, Global};
+use std::alloc::Global;
 use std::test::Fail;
 use tree_listing::{ListingRefused, list_tree};
-
-/// Bytes to be put at an offset.
-type Patch = (usize, &'static [u8]);
 
 /// What follows the gate of an empty page of level 1 in a block.
 const LEVEL_ONE: &[u8] = &[0xa5, 80, 1];
@@ -69,46 +64,31 @@ const CASES: [(u32, &[Patch], u32, Why); 8] = [
     (1, &[(6144 + 2, &[1])], 6, Why::Level),
 ];
 
-fn put(half: &mut Vec<u8>, at: usize, bytes: &[u8])
-    ensures { length half.new.items ≡ length half.old.items }
-{
-    'bytes: for k in 0..bytes.len() {
-        if k < half.len() && at < half.len() - k {
-            half[at + k] = bytes[k];
-        }
-    }
+/// What the version in block `root` is listed as, with these bytes over the store.
+fn listed(
+    alloc: Global,
+    pages: &[Patch],
+    patches: &[Patch],
+    root: u32,
+) -> Result<(Vec<u8>, Result<(), ListingRefused>), Fail> {
+    let mut pair = Pair::over(plain_drives(alloc, pages, patches)?);
+    let mut out = Vec::new(alloc);
+    let answer = list_tree(alloc, &mut pair, BlockNo::of(root)?, &mut out);
+    Ok((out, answer))
 }
 
-fn put_all(half: &mut Vec<u8>, patches: &[Patch])
-    ensures { length half.new.items ≡ length half.old.items }
-{
-    'patches: for patch in patches {
-        put(half, patch.0, patch.1);
-    }
-}
-
-fn half_with(alloc: Global, pages: &[Patch], patches: &[Patch]) -> Result<Vec<u8>, AllocError>
-    ensures { IfOk result (λ half. length half.items ≡ 1024 * 16) }
-{
-    let mut half = fresh_image(alloc, 3, 16, 7)?;
-    half.resize(16384, 0)?;
-    put_all(&mut half, pages);
-    put_all(&mut half, patches);
-    Ok(half)
-}
-
-fn pair_with(alloc: Global, pages: &[Patch], patches: &[Patch]) -> Result<Pair<MemDrives>, Fail> {
-    let a = half_with(alloc, pages, patches)?;
-    let b = half_with(alloc, pages, patches)?;
-    Ok(Pair::over(MemDrives::of_halves(alloc, a, b)?))
+fn bad(block: u32, why: Why) -> Result<Option<ListingRefused>, Fail> {
+    Ok(Some(ListingRefused::BadStore {
+        block: BlockNo::of(block)?,
+        why,
+    }))
 }
 
 #[test]
 fn pages_stand_in_the_order_of_their_paths(rt: HostRuntime) -> Result<(), Fail> {
     'texts: for (pages, text) in &TEXTS {
-        let mut pair = pair_with(rt.alloc(), pages, &[])?;
-        let mut out = Vec::new(rt.alloc());
-        list_tree(rt.alloc(), &mut pair, BlockNo::of(1)?, &mut out)?;
+        let (out, answer) = listed(rt.alloc(), pages, &[], 1)?;
+        answer?;
         assert_eq!(rt; out.as_slice(), text.as_bytes());
     }
     Ok(())
@@ -117,14 +97,8 @@ fn pages_stand_in_the_order_of_their_paths(rt: HostRuntime) -> Result<(), Fail> 
 #[test]
 fn each_cause_is_told(rt: HostRuntime) -> Result<(), Fail> {
     'cases: for (root, patches, block, why) in &CASES {
-        let mut pair = pair_with(rt.alloc(), &FOUR_PAGES, patches)?;
-        let mut out = Vec::new(rt.alloc());
-        let listed = list_tree(rt.alloc(), &mut pair, BlockNo::of(*root)?, &mut out);
-        let block = BlockNo::of(*block)?;
-        assert_eq!(rt;
-            listed.err(),
-            Some(ListingRefused::BadStore { block, why: *why })
-        );
+        let (_out, answer) = listed(rt.alloc(), &FOUR_PAGES, patches, *root)?;
+        assert_eq!(rt; answer.err(), bad(*block, *why)?);
     }
     Ok(())
 }

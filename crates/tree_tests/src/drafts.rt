@@ -1,51 +1,19 @@
-ghost use Rattle.std.specs.Prelude.{◌≡◌, ◌<◌, length, OnOk, IfOk, IfSome};
+//! Drafts on a hand-made base.
+ghost use Rattle.std.specs.Prelude.{◌≡◌, length, OnOk, IfOk, IfSome};
 
-use afs_base::{BlockNo, PageData, Path, Slot};
+use super::texts::{path, step};
+use afs_base::{BlockNo, PageData, Path};
+use arrayvec::ArrayVec;
 use draft_tree::{BoxDraft, Draft, SlotMarks};
-use page_codec::{
-    Members, Page, Reference, VersionPage, decode_page, decode_version, encode_page, encode_version,
-};
+use page_codec::{Members, Page, Reference, VersionPage};
 use ref_flags::Flags;
 use std::alloc::Global;
 use std::process::Abort;
 use std::test::Fail;
-use tree_model::{Child, Reply, Step};
+use tree_model::{Reply, Step};
 
 mod marks;
 mod walks;
-
-/// The path that a text as `/0/12` names.
-fn path(text: &str) -> Option<Path> {
-    let mut path = Path::root();
-    for word in text.split('/') {
-        if !word.is_empty() {
-            let number = word.parse::<u8>().ok()?;
-            path = path.child(Slot::of(number).ok()?).ok()?;
-        }
-    }
-    Some(path)
-}
-
-/// The step that a text as `make /0/12` names. A write writes `new`.
-fn step(text: &str) -> Option<Step> {
-    let (word, rest) = text.split_once(' ')?;
-    let at = path(rest)?;
-    match word {
-        "read" => Some(Step::ReadAt { at }),
-        "list" => Some(Step::ListAt { at }),
-        "write" => Some(Step::WriteAt {
-            at,
-            bytes: PageData::of(b"new"),
-        }),
-        "make" => Some(Step::MakeAt {
-            at: Child::of(&at)?,
-        }),
-        "drop" => Some(Step::DropAt {
-            at: Child::of(&at)?,
-        }),
-        _ => None,
-    }
-}
 
 /// A reference to a block without marks; none to block 0.
 fn reference(block: u32) -> Option<Reference> {
@@ -81,8 +49,21 @@ fn with_child(level: u8, byte: u8, slot: usize, block: u32) -> Option<Page> {
     with_block(&page, slot, block)
 }
 
+/// A page of a level below 7 whose slots all name one block.
+fn wide(level: u8, block: u32) -> Option<Page>
+    ensures { IfSome result (λ p. p.level ≡ level) }
+{
+    if level >= 7 {
+        return None;
+    }
+    let refs = [reference(block)?; 16];
+    let mut page = Page::empty(level);
+    page.refs = refs;
+    Some(page)
+}
+
 /// The page in a block of the base: `/0` in block 4 with `/0/1` in block 5, and below slot 7 one page at each level, that of level n in block
-/// 10 + n.
+/// 10 + n. In block 100 + n lies a page of level n whose slots all name the block of the next level, down to level 6.
 fn made(block: u32) -> Option<Page> {
     match block {
         4 => with_child(1, b'b', 1, 5),
@@ -90,38 +71,29 @@ fn made(block: u32) -> Option<Page> {
         9 => Some(Page::empty(3)),
         11..=16 => with_child((block - 10) as u8, b'd', 7, block + 1),
         17 => Some(Page::empty(7)),
+        101..=105 => wide((block - 100) as u8, block + 1),
+        106 => Some(Page::empty(6)),
         _ => None,
     }
-}
-
-/// The page in a block of the base, after it was written and read.
-fn stored(block: u32) -> Option<Page> {
-    let page = made(block)?;
-    if page.level == 0 {
-        return None;
-    }
-    let mut bytes = [0; 1024];
-    encode_page(&page, &mut bytes);
-    decode_page(&bytes).ok()
 }
 
 /// The page in a block of the base where its level is that of the path.
 fn stored_at(at: &Path, block: BlockNo) -> Option<Page>
     ensures { IfSome result (λ page. page.level ≡ length at.now) }
 {
-    let page = stored(block.get())?;
+    let page = made(block.get())?;
     if page.level as usize != at.len() {
         return None;
     }
     Some(page)
 }
 
-/// A version page, after it was written and read.
+/// A version page.
 fn version(page: Page) -> Option<VersionPage> {
     if page.level != 0 {
         return None;
     }
-    let version = VersionPage {
+    Some(VersionPage {
         root: Flags::none(),
         page,
         object: 5,
@@ -129,10 +101,7 @@ fn version(page: Page) -> Option<VersionPage> {
         commit: None,
         base: None,
         members: Members::none(),
-    };
-    let mut bytes = [0; 1024];
-    encode_version(&version, &mut bytes);
-    decode_version(&bytes).ok()
+    })
 }
 
 /// The base's version page: `/` with `/0` and `/7`.
@@ -140,9 +109,14 @@ fn base() -> Option<VersionPage> {
     version(with_block(&with_child(0, b'a', 0, 4)?, 7, 11)?)
 }
 
+/// A version page that names the page of level 1 in block 101 in all its slots.
+pub fn wide_base() -> Option<VersionPage> {
+    version(wide(0, 101)?)
+}
+
 /// A draft on a version in block 3.
-fn begun(alloc: Global, version: Option<VersionPage>) -> Result<BoxDraft, Fail>
-    ensures { IfOk result (λ d. d.fed ≡ 0) }
+pub fn begun(alloc: Global, version: Option<VersionPage>) -> Result<BoxDraft, Fail>
+    ensures { IfOk result (λ d. ⟦<BoxDraft as Draft>⟧.fed_of d ≡ 0) }
 {
     let version = version.ok_or("no version")?;
     let at = BlockNo::of(3).ok().ok_or("no block")?;
@@ -150,9 +124,9 @@ fn begun(alloc: Global, version: Option<VersionPage>) -> Result<BoxDraft, Fail>
 }
 
 /// Feeds what a step needs, and does it.
-fn run(rt: &impl Abort, draft: &mut BoxDraft, step: &Step) -> Result<Reply, Fail>
-    requires { draft.old.fed ≡ 0 }
-    ensures { OnOk result (draft.new.fed ≡ 0) }
+pub fn run(rt: &impl Abort, draft: &mut BoxDraft, step: &Step) -> Result<Reply, Fail>
+    requires { ⟦<BoxDraft as Draft>⟧.fed_of draft.old ≡ 0 }
+    ensures { OnOk result (⟦<BoxDraft as Draft>⟧.fed_of draft.new ≡ 0) }
 {
     assert!(rt; draft.count() < 128);
     for _fed in 0..7u32 {

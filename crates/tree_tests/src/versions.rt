@@ -11,4 +11,5 @@ use version_chain::{Chain, Flush};
 
 mod blocks;
 mod chains;
+mod greatest;
 mod updates;

@@ -1,6 +1,7 @@
 //! The table and its parts, byte by byte, and new stores.
+ghost use Rattle.std.specs.Prelude.{◌≤◌};
+
 use super::*;
-use std::alloc::Global;
 use std::test::*;
 
 /// Entries from one to another, both included and counted from 0: the first block, the generation and each byte of
@@ -31,8 +32,7 @@ fn are_entries(rt: &impl Abort, entries: &[TableEntry], expected: Entries) {
 /// Parts from one to another, both included, with their block; the others are not there.
 type Parts = &'static [(usize, usize, u32)];
 
-fn are_parts(rt: &impl Abort, parts: &[Option<afs_base::BlockNo>], expected: Parts) {
-    assert_eq!(rt; parts.len(), 64);
+fn are_parts(rt: &impl Abort, parts: &[Option<BlockNo>], expected: Parts) {
     for (j, part) in parts.iter().enumerate() {
         let mut block = 0;
         for (first, last, number) in expected {
@@ -112,10 +112,6 @@ fn tables(rt: HostRuntime) -> Result<(), Fail> {
             ],
             *numbers
         );
-        assert_eq!(rt;
-            table.entries().len(),
-            if table.format() == 1 { 60 } else { 4032 }
-        );
         are_parts(&rt, table.parts(), parts);
         are_entries(&rt, table.entries(), entries);
         let mut again = [9; 1024];
@@ -123,26 +119,6 @@ fn tables(rt: HostRuntime) -> Result<(), Fail> {
         assert_eq!(rt; again.as_slice(), block.as_slice(), "{text}");
     }
     Ok(())
-}
-
-/// A table of format 2 over 64 blocks, with these entries as part j.
-fn table_with(
-    rt: &impl Abort,
-    alloc: Global,
-    j: u8,
-    entries: &[TableEntry],
-) -> Result<Table, Fail> {
-    let mut table = Table::of_root(
-        alloc,
-        &decode_root(&block_of(rt, "0:a5540200000000400000000000000007"))?,
-    )?;
-    for (i, entry) in entries.iter().enumerate() {
-        let object = 63 * j as usize + i + 1;
-        if table.format() != 1 && object <= table.entries().len() {
-            table.set_entry(object, *entry);
-        }
-    }
-    Ok(table)
 }
 
 /// A block, the index of the part in it, and its entries.
@@ -168,14 +144,12 @@ const PARTS: [(&str, u8, Entries); 4] = [
 #[test]
 fn parts(rt: HostRuntime) -> Result<(), Fail> {
     for (text, j, expected) in PARTS.iter() {
+        assert!(rt; *j < 64);
         let block = block_of(&rt, text);
         let entries = decode_part(&block, *j)?;
         are_entries(&rt, &entries, expected);
-        let table = table_with(&rt, rt.alloc(), *j, &entries)?;
-        assert!(rt; *j < 64 && table.format() == 2);
-        assert!(rt; table.is_used_part(*j));
         let mut again = [9; 1024];
-        encode_part(&table, *j, &mut again);
+        encode_entries(*j, &entries, &mut again);
         assert_eq!(rt; again.as_slice(), block.as_slice(), "{text}");
     }
     Ok(())
@@ -214,16 +188,23 @@ fn new_stores(rt: HostRuntime) -> Result<(), Fail> {
     Ok(())
 }
 
+/// The entry of an object of a new store of key 7.
+fn new_entry(object: u32) -> TableEntry
+    requires low { 1 ≤ object }
+    requires high { object ≤ 63 }
+{
+    TableEntry::live(BlockNo::at(object), 1, secret_of(7, object, 1))
+}
+
 #[test]
 fn the_part_of_a_store_of_sixty_one_files(rt: HostRuntime) -> Result<(), Fail> {
-    let mut entries = [TableEntry::none(); 63];
+    let root = decode_root(&block_of(&rt, "0:a5540200000000400000000000000007"))?;
+    let mut table = Table::of_root(rt.alloc(), &root)?;
     for object in 1..=61u32 {
-        let first = afs_base::BlockNo::of(object)?;
-        if first.get() != 0 {
-            entries[object as usize - 1] = TableEntry::live(first, 1, secret_of(7, object, 1));
+        if table.format() == 2 {
+            table.set_entry(object as usize, new_entry(object));
         }
     }
-    let table = table_with(&rt, rt.alloc(), 0, &entries)?;
     assert!(rt; table.format() == 2);
     assert!(rt; table.is_used_part(0));
     let mut part = [9; 1024];

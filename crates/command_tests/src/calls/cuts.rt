@@ -1,16 +1,6 @@
 // Plays that a failing call cuts off, and what a crash then leaves: what is found is the same, but for the version where it was made.
 use super::*;
-
-/// Halves of the new store that were made by `format`, or whose mending has something to do.
-fn begun(alloc: Global, torn: Option<(Half, u8)>) -> Result<MemDrives, Fail> {
-    match torn {
-        Some((half, byte)) => Ok(halves_of(alloc, Start::Torn(half, byte), &[])?),
-        None => {
-            let drives = MemDrives::blank(alloc, 64)?;
-            Ok(called(alloc, FORMAT, NONE, drives)?.0.drives)
-        }
-    }
-}
+use drives::Pick;
 
 /// What a crash leaves of what was written and not synced.
 fn pick_of(call: u64) -> Pick {
@@ -23,7 +13,7 @@ fn pick_of(call: u64) -> Pick {
 
 /// Whether these halves show the file with its version. Else they show it without.
 fn is_played(rt: &impl Abort, alloc: Global, drives: MemDrives) -> Result<bool, AllocError> {
-    let (ended, out) = called(alloc, SHOW, NONE, drives)?;
+    let (ended, out) = called(alloc, SHOW, drives)?;
     assert_eq!(rt; ended.status.code(), 0);
     let done = out.bytes() == PLAYED;
     assert!(rt; done || out.bytes() == NEW);
@@ -58,13 +48,14 @@ fn crashed(rt: &impl Abort, alloc: Global, drives: &MemDrives, pick: Pick) -> Re
 fn played_until(
     rt: &impl Abort,
     alloc: Global,
-    torn: Option<(Half, u8)>,
+    a: &[Patch],
+    b: &[Patch],
     call: u64,
 ) -> Result<bool, Fail> {
-    let mut drives = begun(alloc, torn)?;
+    let mut drives = begun(alloc, SERVED, a, b)?;
     let last = drives.now().saturating_add(call);
     drives.fail_at(Vec::from_slice(alloc, &[last])?);
-    let (ended, _) = called(alloc, PLAY, NONE, drives)?;
+    let (ended, _) = called(alloc, PLAY, drives)?;
     let done = crashed(rt, alloc, &ended.drives, pick_of(call))?;
     assert!(rt; done || ended.status.code() == 3);
     Ok(ended.drives.now() < last)
@@ -76,9 +67,9 @@ fn is_tried(call: u64) -> bool {
 }
 
 /// Cuts off a play at its calls, from the first one on.
-fn cut_off(rt: &impl Abort, alloc: Global, torn: Option<(Half, u8)>) -> Result<(), Fail> {
+fn cut_off(rt: &impl Abort, alloc: Global, a: &[Patch], b: &[Patch]) -> Result<(), Fail> {
     'calls: for call in 1..400 {
-        if is_tried(call) && played_until(rt, alloc, torn, call)? {
+        if is_tried(call) && played_until(rt, alloc, a, b, call)? {
             assert!(rt; call > 150);
             return Ok(());
         }
@@ -90,15 +81,15 @@ fn cut_off(rt: &impl Abort, alloc: Global, torn: Option<(Half, u8)>) -> Result<(
 fn a_play_that_is_cut_off_leaves_the_file_with_or_without_its_version(
     rt: HostRuntime,
 ) -> Result<(), Fail> {
-    cut_off(&rt, rt.alloc(), None)
+    cut_off(&rt, rt.alloc(), &[], &[])
 }
 
 #[test]
 fn so_does_one_that_mends_half_a(rt: HostRuntime) -> Result<(), Fail> {
-    cut_off(&rt, rt.alloc(), Some((Half::A, 1)))
+    cut_off(&rt, rt.alloc(), &[(2048, &[1])], &[])
 }
 
 #[test]
 fn so_does_one_that_mends_half_b(rt: HostRuntime) -> Result<(), Fail> {
-    cut_off(&rt, rt.alloc(), Some((Half::B, 0)))
+    cut_off(&rt, rt.alloc(), &[], &[(2048, &[0])])
 }

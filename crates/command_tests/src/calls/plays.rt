@@ -2,70 +2,114 @@
 use super::*;
 use drives::SureDrives;
 
-/// The halves that a play begins with, and which of their calls fail; how it ends, and what it prints. Where it ends well the update
-/// stands on both halves, and else on none.
-type Row = (Start, &'static [u64], u8, &'static [u8]);
-
-/// Plays of the sample script. Mending reads each block on half B, then on half A; once block 0 is mended, it is looked at.
-const SAMPLES: [Row; 12] = [
-    (Start::Served, &[], 0, ANSWERS),
-    (Start::Torn(Half::A, 1), &[], 0, ANSWERS),
-    (Start::Torn(Half::B, 0), &[], 0, ANSWERS),
-    (Start::Other, &[], 4, b"bad store: unbuilt\n"),
-    (Start::Blank, &[], 4, b"bad store: block 0 closed\n"),
-    (Start::Served, &[1], 3, b"drive B\n"),
-    (Start::Served, &[2], 3, b"drive A\n"),
-    (Start::Served, &[3], 0, ANSWERS),
-    (Start::Served, &[3, 4], 3, b"drive A\n"),
-    (Start::Served, &[4], 3, b"drive B\n"),
-    (Start::Served, &[5], 3, b"drive A\n"),
-    (Start::Served, &[129], 3, b"drive A\n"),
-];
-
-#[test]
-fn samples(rt: HostRuntime) -> Result<(), Fail> {
-    let alloc = rt.alloc();
-    for (start, calls, code, text) in SAMPLES {
-        let drives = halves_of(alloc, start, calls)?;
-        let drives = answered(&rt, alloc, PLAY, drives, (code, text))?;
-        assert_eq!(rt; holds_the_update(drives.half_bytes(Half::A)), code == 0);
-        assert_eq!(rt; holds_the_update(drives.half_bytes(Half::B)), code == 0);
+fn has_at(bytes: &[u8], at: usize, expected: &[u8]) -> bool {
+    match bytes.get(at..) {
+        Some(rest) => rest.starts_with(expected),
+        None => false,
     }
-    Ok(())
 }
 
-/// Other calls over the new store: which calls of the source and the sink fail, and how each ends.
-const OTHERS: [(Call, Fails, u8, &[u8]); 6] = [
-    ((&["run"], &[SAMPLE]), NONE, 1, b"usage\n"),
-    ((&["play"], &[SAMPLE, SAMPLE]), NONE, 1, b"usage\n"),
+/// The pages of the update, on a half: the second version stands in block 3, and the first names it.
+const UPDATE: [Patch; 6] = [
+    (3072, &[0xa5, 0x56, 0, 7]),
+    (3072 + 68, &[0, 2, 0, 0, 0, 1, 0, 0, 0, 0, 0, 0, 0, 2]),
+    (3072 + 82, &[0, 0, 0, 0, 0, 0, 0, 1]),
+    (3072 + 219, b"hi\0"),
+    (1024, &[0xa5, 0x56, 0, 0]),
+    (1024 + 70, &[0, 0, 0, 1, 0, 0, 0, 0, 0, 0, 0, 1, 0, 0, 0, 3]),
+];
+
+fn holds_the_update(half: &[u8]) -> bool {
+    UPDATE.iter().all(|part| has_at(half, part.0, part.1))
+}
+
+/// Plays. Mending reads each block on half B, then on half A; once block 0 is mended, it is looked at. Where a play of the
+/// sample ends well, or with a fault of the sink, the update stands on both halves, and else on none.
+const PLAYS: [Case; 18] = [
+    (SERVED, &[], &[], &[], PLAY, 0, ANSWERS),
+    (SERVED, &[(2048, &[1])], &[], &[], PLAY, 0, ANSWERS),
+    (SERVED, &[], &[(2048, &[0])], &[], PLAY, 0, ANSWERS),
+    (OTHER, &[], &[], &[], PLAY, 4, b"bad store: unbuilt\n"),
     (
-        (&["play"], &[b"begin 2\ncommit\n"]),
-        NONE,
+        BLANK,
+        &[],
+        &[],
+        &[],
+        PLAY,
+        4,
+        b"bad store: block 0 closed\n",
+    ),
+    (SERVED, &[], &[], &[1], PLAY, 3, b"drive B\n"),
+    (SERVED, &[], &[], &[2], PLAY, 3, b"drive A\n"),
+    (SERVED, &[], &[], &[3], PLAY, 0, ANSWERS),
+    (SERVED, &[], &[], &[3, 4], PLAY, 3, b"drive A\n"),
+    (SERVED, &[], &[], &[4], PLAY, 3, b"drive B\n"),
+    (SERVED, &[], &[], &[5], PLAY, 3, b"drive A\n"),
+    (SERVED, &[], &[], &[129], PLAY, 3, b"drive A\n"),
+    (
+        SERVED,
+        &[],
+        &[],
+        &[],
+        (&["run"], &[SAMPLE], &[], &[]),
+        1,
+        b"usage\n",
+    ),
+    (
+        SERVED,
+        &[],
+        &[],
+        &[],
+        (&["play"], &[SAMPLE, SAMPLE], &[], &[]),
+        1,
+        b"usage\n",
+    ),
+    (
+        SERVED,
+        &[],
+        &[],
+        &[],
+        (&["play"], &[b"begin 2\ncommit\n"], &[], &[]),
         2,
         b"script 1 unbuilt\n",
     ),
-    (PLAY, (&[1], &[]), 6, b"source 1\n"),
-    (PLAY, (&[], &[3]), 5, b"1.1 base 1\n1.2 ok\n"),
     (
-        (&["play"], &[b"begin 1\nread /\ncommit\n"]),
-        NONE,
+        SERVED,
+        &[],
+        &[],
+        &[],
+        (&["play"], &[SAMPLE], &[1], &[]),
+        6,
+        b"source 1\n",
+    ),
+    (
+        SERVED,
+        &[],
+        &[],
+        &[],
+        (&["play"], &[SAMPLE], &[], &[3]),
+        5,
+        b"1.1 base 1\n1.2 ok\n",
+    ),
+    (
+        SERVED,
+        &[],
+        &[],
+        &[],
+        (&["play"], &[b"begin 1\nread /\ncommit\n"], &[], &[]),
         0,
         b"1.1 base 1\n1.2 data -\n1.3 committed 1\nfile 1: 1\nfile 2: 1\n",
     ),
 ];
 
 #[test]
-fn others(rt: HostRuntime) -> Result<(), Fail> {
+fn plays_end_so_and_leave_the_update_or_nothing(rt: HostRuntime) -> Result<(), Fail> {
     let alloc = rt.alloc();
-    for (call, fails, code, text) in OTHERS {
-        let drives = halves_of(alloc, Start::Served, &[])?;
-        let (ended, out) = called(alloc, call, fails, drives)?;
-        expect(&rt, ended.status.code(), &out, (code, text));
-        // A fault of the sink leaves the update, and only that one play makes it.
-        assert_eq!(rt;
-            holds_the_update(ended.drives.half_bytes(Half::B)),
-            code == 5
-        );
+    for (row, case) in PLAYS.iter().enumerate() {
+        let drives = try_case(&rt, alloc, row, case)?;
+        let done = case.6 == ANSWERS || case.5 == 5;
+        assert_eq!(rt; holds_the_update(drives.half_bytes(Half::A)), done);
+        assert_eq!(rt; holds_the_update(drives.half_bytes(Half::B)), done);
     }
     Ok(())
 }
@@ -73,11 +117,15 @@ fn others(rt: HostRuntime) -> Result<(), Fail> {
 #[test]
 fn halves_that_never_fail(rt: HostRuntime) -> Result<(), Fail> {
     let alloc = rt.alloc();
-    let a = half_of(alloc, Start::Served, Half::A)?;
-    let b = half_of(alloc, Start::Served, Half::B)?;
-    let drives = SureDrives::of_halves(alloc, a, b)?;
-    let (ended, out) = called(alloc, PLAY, NONE, drives)?;
-    expect(&rt, ended.status.code(), &out, (0, ANSWERS));
+    let drives = called(
+        alloc,
+        (SERVED, &[], &[], &[]),
+        SureDrives::blank(alloc, 64)?,
+    )?
+    .0
+    .drives;
+    let (ended, out) = called(alloc, PLAY, drives)?;
+    expect(&rt, 0, (ended.status.code(), &out), (0, ANSWERS));
     assert!(rt; holds_the_update(ended.drives.half_bytes(Half::A)));
     assert!(rt; holds_the_update(ended.drives.half_bytes(Half::B)));
     Ok(())
@@ -86,41 +134,14 @@ fn halves_that_never_fail(rt: HostRuntime) -> Result<(), Fail> {
 #[test]
 fn a_fault_of_the_link_is_told_with_what_was_answered(rt: HostRuntime) -> Result<(), Fail> {
     let alloc = rt.alloc();
-    let drives = halves_of(alloc, Start::Served, &[])?;
+    let drives = made(alloc, SERVED)?;
     // The last call of the run ends the link on half A.
     let last = answered(&rt, alloc, PLAY, drives, (0, ANSWERS))?.now();
-    let drives = halves_of(alloc, Start::Served, &[last])?;
-    let (ended, out) = called(alloc, PLAY, NONE, drives)?;
+    let mut drives = made(alloc, SERVED)?;
+    drives.fail_at(Vec::from_slice(alloc, &[last])?);
+    let (ended, out) = called(alloc, PLAY, drives)?;
     let answers = b"1.1 base 1\n1.2 ok\n1.3 data 6869\ndrive A\n";
-    expect(&rt, ended.status.code(), &out, (3, answers));
+    expect(&rt, 0, (ended.status.code(), &out), (3, answers));
     assert!(rt; ended.journal.doubt.is_some());
-    Ok(())
-}
-
-/// The script of so many writes.
-fn writes(alloc: Global, times: usize) -> Result<Vec<u8>, AllocError> {
-    let mut script = Vec::from_slice(alloc, b"begin 1\n")?;
-    for _ in 0..times {
-        script.extend_from_slice(b"write / 00\n")?;
-    }
-    script.extend_from_slice(b"commit\n")?;
-    Ok(script)
-}
-
-#[test]
-fn the_longest_update(rt: HostRuntime) -> Result<(), Fail> {
-    let alloc = rt.alloc();
-    let drives = halves_of(alloc, Start::Served, &[])?;
-    let script = writes(alloc, 128)?;
-    let words = words_of(alloc, &["play"])?;
-    let mut scripts = sources_of(alloc, &[&script], &[])?;
-    let mut out = MemSink::of(Vec::new(alloc), Vec::new(alloc));
-    let ended = afs_words(alloc, &words, drives, &mut scripts, &mut out);
-    assert_eq!(rt; ended.status.code(), 0);
-    assert_eq!(rt; ended.journal.entries.len(), 133);
-    assert!(rt;
-        out.bytes()
-            .ends_with(b"1.130 committed 2\nfile 1: 1 2\nfile 2: 1\n")
-    );
     Ok(())
 }

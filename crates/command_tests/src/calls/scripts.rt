@@ -64,11 +64,8 @@ fn answers_in(printed: &[u8]) -> usize {
 
 /// How a text is played: how many steps were answered between its first line and its last one, or that it is no script.
 fn steps_played(rt: &impl Abort, alloc: Global, text: &[u8]) -> Result<Option<usize>, Fail> {
-    let words = words_of(alloc, PLAY.0)?;
-    let mut scripts = sources_of(alloc, &[text], &[])?;
-    let mut out = MemSink::of(Vec::new(alloc), Vec::new(alloc));
-    let drives = halves_of(alloc, Start::Served, &[])?;
-    let ended = afs_words(alloc, &words, drives, &mut scripts, &mut out);
+    let call: Call = (PLAY.0, &[text], &[], &[]);
+    let (ended, out) = called(alloc, call, made(alloc, SERVED)?)?;
     if ended.status.code() == 2 {
         assert_eq!(rt; out.bytes(), b"script 1 unbuilt\n".as_slice());
         return Ok(None);

@@ -1,26 +1,5 @@
-//! Replies, flags, masks and fresh paths after lists of steps.
+//! Flags, masks and fresh paths after lists of steps.
 use super::*;
-
-/// The replies to a script on a base that has `/` alone.
-const SCRIPT: [(&str, Reply); 6] = [
-    ("read /5", Reply::Absent),
-    ("make /0", Reply::Done),
-    ("make /0", Reply::Present),
-    ("drop /9", Reply::Absent),
-    ("make /3/3", Reply::Absent),
-    ("list /", Reply::Slots(1)),
-];
-
-#[test]
-fn a_script_is_answered(rt: HostRuntime) -> Result<(), Fail> {
-    let mut draft = begun(rt.alloc(), version(Page::empty(0)))?;
-    for (text, reply) in SCRIPT {
-        let step = step(text).ok_or("no step")?;
-        assert_eq!(rt; run(&rt, &mut draft, &step)?, reply, "{text}");
-    }
-    assert_eq!(rt; draft.count(), 6);
-    Ok(())
-}
 
 /// A path, the code of its flags, and the masks of the slots that were read and written.
 type Marked = (&'static str, u8, u16, u16);
@@ -38,7 +17,10 @@ const MARKED: [(&[&str], &[Marked]); 8] = [
         ],
     ),
     // Written and not read, and read only after that.
-    (&["write /0", "read /0"], &[("/", 2, 1, 0), ("/0", 7, 0, 0)]),
+    (
+        &["write /0 new", "read /0"],
+        &[("/", 2, 1, 0), ("/0", 7, 0, 0)],
+    ),
     (&["list /0"], &[("/", 2, 1, 0), ("/0", 2, 0xffff, 0)]),
     // A make marks the slot above and all of the new page.
     (
@@ -51,7 +33,7 @@ const MARKED: [(&[&str], &[Marked]); 8] = [
     ),
     // What is dropped keeps its marks.
     (
-        &["read /0/1", "write /0/1", "drop /0"],
+        &["read /0/1", "write /0/1 new", "drop /0"],
         &[("/", 3, 1, 1), ("/0", 2, 2, 0), ("/0/1", 10, 0, 0)],
     ),
     // Dropped and made again: what was read before stays read.
@@ -89,12 +71,12 @@ fn marks_are_read_off(rt: HostRuntime) -> Result<(), Fail> {
 const FRESH: [(&[&str], &[&str]); 4] = [
     (&["read /0/1", "list /"], &[]),
     (
-        &["make /3", "write /0/1", "make /3/1"],
+        &["make /3", "write /0/1 new", "make /3/1"],
         &["/", "/0", "/0/1", "/3", "/3/1"],
     ),
     // What was written below a dropped page makes the pages above it fresh.
-    (&["write /0/1", "drop /0"], &["/"]),
-    (&["write /0/1", "drop /0/1"], &["/", "/0"]),
+    (&["write /0/1 new", "drop /0"], &["/"]),
+    (&["write /0/1 new", "drop /0/1"], &["/", "/0"]),
 ];
 
 #[test]
@@ -105,10 +87,12 @@ fn fresh_paths_are_in_order(rt: HostRuntime) -> Result<(), Fail> {
             run(&rt, &mut draft, &step(text).ok_or("no step")?)?;
         }
         assert_eq!(rt; draft.has_writes(), !fresh.is_empty(), "{texts:?}");
-        let count = draft.fresh_count();
-        assert_eq!(rt; count as usize, fresh.len(), "{texts:?}");
-        for k in 0..count {
-            assert_eq!(rt; Some(draft.fresh(k)), path(fresh[k as usize]), "{texts:?}");
+        assert_eq!(rt; draft.fresh_count() as usize, fresh.len(), "{texts:?}");
+        let mut paths = ArrayVec::new();
+        draft.list_fresh(&mut paths);
+        assert_eq!(rt; paths.len(), fresh.len(), "{texts:?}");
+        for (at, text) in paths.as_slice().iter().zip(fresh) {
+            assert_eq!(rt; Some(*at), path(text), "{texts:?}");
         }
     }
     Ok(())

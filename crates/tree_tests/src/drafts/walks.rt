@@ -5,8 +5,8 @@ use super::*;
 
 /// Reads the page at a path of seven slots 7, whose pages are needed one by one from the top.
 fn read_down(rt: &impl Abort, draft: &mut BoxDraft, at: &Path) -> Result<Reply, Fail>
-    requires { draft.old.fed ≡ 0 }
-    ensures { OnOk result (draft.new.fed ≡ 0) }
+    requires { ⟦<BoxDraft as Draft>⟧.fed_of draft.old ≡ 0 }
+    ensures { OnOk result (⟦<BoxDraft as Draft>⟧.fed_of draft.new ≡ 0) }
 {
     let step = Step::ReadAt { at: *at };
     assert!(rt; draft.count() < 128);

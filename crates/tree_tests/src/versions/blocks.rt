@@ -138,21 +138,7 @@ fn with_two(first: Reference, second: Reference) -> Page
     page
 }
 
-/// The version in these blocks, and an update that writes `aa` at `/0`.
-fn one_written(alloc: Global) -> Option<BoxDraft> {
-    let at = number(4)?;
-    let version = two_below(2, at, number(5)?)?;
-    let leaf = Page::empty(1);
-    let step = Step::WriteAt {
-        at: below(0)?,
-        bytes: PageData::of(&[0xaa]),
-    };
-    let mut draft = begun(alloc, number(3)?, &version)?;
-    done(&mut draft, &step, at, &leaf)?;
-    Some(draft)
-}
-
-/// The version which that update makes, and an update that writes `bb` at `/1`.
+/// The version in these blocks, and an update that writes `bb` at `/1`.
 fn other_written(alloc: Global) -> Option<BoxDraft> {
     let at = number(5)?;
     let version = two_below(3, number(7)?, at)?;
@@ -165,17 +151,6 @@ fn other_written(alloc: Global) -> Option<BoxDraft> {
     done(&mut draft, &step, at, &leaf)?;
     Some(draft)
 }
-
-const WROTE: [Expected; 2] = [
-    Expected {
-        block: 7,
-        text: "0:a5500100 68:0001 219:aa",
-    },
-    Expected {
-        block: 6,
-        text: "0:a55600027000000700000005 70:000000010000000000000003 86:00000003",
-    },
-];
 
 const OTHER_WROTE: [Expected; 2] = [
     Expected {
@@ -224,13 +199,6 @@ fn flushes(
 fn writes_pages_that_were_made(rt: HostRuntime) -> Result<(), Fail> {
     let draft = two_made(rt.alloc()).ok_or("draft")?;
     flushes(&rt, rt.alloc(), &draft, 2, 0, Members::none(), &MADE).ok_or("flush")?;
-    Ok(())
-}
-
-#[test]
-fn shares_what_was_not_written(rt: HostRuntime) -> Result<(), Fail> {
-    let draft = one_written(rt.alloc()).ok_or("draft")?;
-    flushes(&rt, rt.alloc(), &draft, 5, 0, Members::none(), &WROTE).ok_or("flush")?;
     Ok(())
 }
 

@@ -2,7 +2,8 @@
 ghost use Rattle.std.specs.Prelude.{◌≡◌, ◌<◌, ◌≤◌, ◌^◌, IfSome, OnSome};
 ghost use Rattle.block_map.specs.States.{held_count};
 ghost use Rattle.draft_model.specs.Flush.{IsPlaced};
-ghost use Rattle.draft_model.specs.Views.{copies, end_of, Wants};
+ghost use Rattle.tree_model.specs.Accesses.{end_of};
+ghost use Rattle.draft_model.specs.Views.{copies, Wants};
 
 use super::*;
 
@@ -102,11 +103,11 @@ fn stepped<D: Draft>(draft: &mut D, step: &Step) -> Option<()>
     }
 }
 
-/// A map of 64 blocks of which so many are kept, and of which the client holds so many more.
+/// A map of 1,024 blocks of which so many are kept, and of which the client holds so many more.
 fn holding(alloc: Global, kept: u32, client: ClientNo, count: u32) -> Option<BlockMap>
     ensures { IfSome result (λ m. held_count client m ≡ count) }
 {
-    let mut map = BlockMap::make(alloc, 64).ok()?;
+    let mut map = BlockMap::make(alloc, 1024).ok()?;
     map.hold(client, kept).ok()?;
     map.keep(client);
     map.hold(client, count).ok()?;

@@ -1,11 +1,21 @@
 //! Each call failing once while a store is made, and each image of each moment then: no store, or the new one.
 use super::*;
-use drives::{Drives, Pick};
+use drives::Pick;
 
-/// Whether halves are checked as no store, or as the new one of one file in four blocks.
+/// The words that make a store of one file in four blocks.
+const SMALL: Call = (&["format", "7", "1", "4"], &[], &[], &[]);
+
+/// Makes it, on halves of four blocks whose calls of these numbers fail.
+fn small(alloc: Global, fails: &[u64]) -> Result<(Ended<MemDrives>, MemSink), Fail> {
+    let mut drives = MemDrives::blank(alloc, 4)?;
+    drives.fail_at(Vec::from_slice(alloc, fails)?);
+    Ok(called(alloc, SMALL, drives)?)
+}
+
+/// Whether halves are checked as no store, or as the new one.
 fn is_none_or_new(alloc: Global, drives: MemDrives) -> Result<bool, Fail> {
-    let mut out = sink(alloc, &[])?;
-    Ok(match afs_check(alloc, drives, &mut out).status.code() {
+    let (ended, out) = called(alloc, CHECK, drives)?;
+    Ok(match ended.status.code() {
         0 => out.bytes() == b"files 1 versions 1 blocks 1 free 2\n".as_slice(),
         4 => out.bytes() == b"bad store: block 0 closed\n".as_slice(),
         _ => false,
@@ -39,24 +49,20 @@ fn each_failing_call_names_its_half_and_leaves_no_store_or_the_new_one(
     let alloc = rt.alloc();
     for (first, last, line) in &CALLS {
         for failing in *first..=*last {
-            let mut out = sink(alloc, &[])?;
-            let ended = format_new(alloc, 1, 4, &[failing], &mut out)?;
-            ended_so(&rt, &ended, &out, 3, *line, failing as usize);
+            let (ended, out) = small(alloc, &[failing])?;
+            expect(
+                &rt,
+                failing as usize,
+                (ended.status.code(), &out),
+                (3, *line),
+            );
             for pick in [Pick::Old, Pick::New, Pick::Fill(0xa5)] {
-                assert!(rt;
-                    are_none_or_new(alloc, &ended.drives, pick)?,
-                    "call {failing}"
-                );
+                assert!(rt; are_none_or_new(alloc, &ended.drives, pick)?);
             }
         }
     }
-    Ok(())
-}
-
-#[test]
-fn a_store_of_one_file_is_made_in_22_calls(rt: HostRuntime) -> Result<(), Fail> {
-    let mut out = sink(rt.alloc(), &[])?;
-    let ended = format_new(rt.alloc(), 1, 4, &[], &mut out)?;
+    let (ended, out) = small(alloc, &[])?;
+    expect(&rt, 0, (ended.status.code(), &out), (0, b"file 1\n"));
     assert_eq!(rt; ended.drives.now(), 22);
     Ok(())
 }

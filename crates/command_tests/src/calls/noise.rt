@@ -45,9 +45,9 @@ const STORE: [Patch; 6] = [
 ];
 
 /// What is put over each half, the status, and what is printed.
-type Case = (&'static [Patch], &'static [Patch], u8, &'static [u8]);
+type Noisy = (&'static [Patch], &'static [Patch], u8, &'static [u8]);
 
-const CASES: [Case; 4] = [
+const CASES: [Noisy; 4] = [
     (&[], &[], 4, b"bad store: block 0 closed\n"),
     (&[], &[TABLE], 4, b"bad store: block 0 reference\n"),
     (&STORE, &[], 0, b"files 2 versions 2 blocks 2 free 65533\n"),
@@ -59,9 +59,8 @@ fn halves_of_any_bytes_have_an_answer(rt: HostRuntime) -> Result<(), Fail> {
     let alloc = rt.alloc();
     let bytes = noise(alloc)?;
     for (row, (a, b, status, printed)) in CASES.iter().enumerate() {
-        let mut out = sink(alloc, &[])?;
-        let ended = afs_check(alloc, noisy(alloc, &bytes, *a, *b)?, &mut out);
-        ended_so(&rt, &ended, &out, *status, *printed, row);
+        let (ended, out) = called(alloc, CHECK, noisy(alloc, &bytes, *a, *b)?)?;
+        expect(&rt, row, (ended.status.code(), &out), (*status, *printed));
     }
     Ok(())
 }
