@@ -8,5 +8,6 @@ pub mod ReadCauses
 pub mod VersionLaws
 pub mod PageWriting
 pub mod MendLaws
+pub mod RunLaws
 pub mod ClosingLaws
 pub mod RestLaws

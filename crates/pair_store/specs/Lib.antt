@@ -9,5 +9,6 @@ pub mod Edits
 pub mod Answers
 pub mod Found
 pub mod Mending
+pub mod Runs
 pub mod Closing
 pub mod PairLaws

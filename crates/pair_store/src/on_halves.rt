@@ -1,5 +1,5 @@
 // Two halves as a store of blocks.
-ghost use Rattle.std.specs.Prelude.{◌≡◌, ◌≢◌, ◌⊎◌, ◌↔◌, ℕ, ◌+◌, ◌-◌, ◌*◌, ◌^◌, ◌<◌, ◌≤◌, min, None, Some, IfErr, IsErrOf, OnOk};
+ghost use Rattle.std.specs.Prelude.{◌≡◌, ◌≢◌, ◌⊎◌, ◌↔◌, ℕ, ◌+◌, ◌-◌, ◌*◌, ◌^◌, ◌<◌, ◌≤◌, min, None, Some, IfErr, IfOk, IsErrOf, OnOk};
 ghost use Rattle.drives.specs.declared.device.Half.{Half};
 ghost use Rattle.drives.specs.Changes.{Changes, IsAtRest, halves_seen};
 ghost use Rattle.drives.specs.Crash.{LeavesSame};
@@ -11,6 +11,7 @@ ghost use Rattle.pair_store.specs.Faults.{IsStopped, IsUnread, LaterFaults};
 ghost use Rattle.drives.specs.Faults.{HasFailed};
 ghost use Rattle.pair_store.specs.Found.{IsPairRead};
 ghost use Rattle.pair_store.specs.Mending.{IsCopy, IsFaultOf, IsHalfFault, IsMended, WroteNothing};
+ghost use Rattle.pair_store.specs.Runs.{IsSettledRun};
 ghost use Rattle.drives.specs.Faults.{SameFaults};
 
 use crate::Block;
@@ -19,6 +20,7 @@ use crate::content_write::write_content;
 use crate::fault::PairFault;
 use crate::mend::mend_block;
 use crate::outcome::{Mended, Tas};
+use crate::runs::{Run, count_settled};
 use crate::store::Blocks;
 use crate::version_edit::{drop_members, set_commit};
 use afs_base::BlockNo;
@@ -118,6 +120,49 @@ impl<V: Drives> Pair<V> {
         ensures size { V.size (drives_of self.new) ≡ V.size (drives_of self.old) }
     {
         mend_block(&mut self.drives, n.get())
+    }
+
+    /// How many of `count` blocks, from `first` on, need no mending, before one that does: they are
+    /// open and equal on both halves, or closed on both. It makes one read of each half, of half B
+    /// first, and writes nothing. It ends at its first failed call, and answers no fault but
+    /// `ReadFault`. It does not count as an operation.
+    pub fn count_settled(
+        &mut self,
+        first: BlockNo,
+        count: u32,
+        run: &mut Run,
+    ) -> Result<u32, PairFault>
+        requires high { first + count ≤ V.size (drives_of self.old) }
+        requires few { count ≤ 64 }
+        ensures only { IfErr result (IsReadFault first) }
+        ensures read { IsErrOf result (PairFault.BothClosed first) → ⊥ }
+        ensures settled { V.tells → IfOk result (λ k. IsSettledRun first count k
+            (halves_seen V.seen (drives_of self.old))) }
+        ensures most { IfOk result (λ k. k ≤ count) }
+        ensures stopped { (h : Half) → IsErrOf result (PairFault.ReadFault h)
+            → IsStopped (V.faults (drives_of self.old)) (V.faults (drives_of self.new))
+            (V.last_fault (drives_of self.new)) (V.moment (drives_of self.new)) h }
+        ensures reads { OnOk result (V.moment (drives_of self.new)
+            ≡ min (V.moment (drives_of self.old) + 2) (2 ^ 64 - 1)) }
+        ensures contents { V.tells → SameContents (⟦<Pair<V> as Blocks>⟧.content self.old)
+            (⟦<Pair<V> as Blocks>⟧.content self.new) }
+        ensures kept { V.tells → (k : ℕ)
+            → ⟦<Pair<V> as Blocks>⟧.settled self.new k ↔ ⟦<Pair<V> as Blocks>⟧.settled self.old k }
+        ensures images { Changes ⟦<Pair<V> as Blocks>⟧.moment ⟦<Pair<V> as Blocks>⟧.may_leave
+            self.old self.new SameContents }
+        ensures rest { V.tells → IsAtRest V.seen V.moment V.may_leave (drives_of self.old)
+            → IsAtRest V.seen V.moment V.may_leave (drives_of self.new) }
+        ensures settles { V.tells → IfOk result (λ k. (n : ℕ) → first ≤ n → n < first + k
+            → ⟦<Pair<V> as Blocks>⟧.settled self.new n) }
+        ensures uncounted { operations_of self.new ≡ operations_of self.old }
+        ensures later { LaterFaults (V.faults (drives_of self.old)) (V.faults (drives_of self.new))
+            (V.last_fault (drives_of self.old)) (V.last_fault (drives_of self.new)) }
+        ensures size { V.size (drives_of self.new) ≡ V.size (drives_of self.old) }
+    {
+        match count_settled(&mut self.drives, first.get(), count, run) {
+            Ok(settled) => Ok(settled),
+            Err(half) => Err(PairFault::ReadFault { half }),
+        }
     }
 
     /// Reads the content of a block while a store is mended. It does not count as an operation, and
