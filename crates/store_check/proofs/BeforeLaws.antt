@@ -16,8 +16,8 @@ use Rattle.store_model.specs.Laid.{Node, LaidVersion, page_in, block_in}
 use Rattle.store_model.specs.Laws.{pages_of, page_of_block, read_of}
 use Rattle.store_model.proofs.Reading.{Content, reads_version}
 use Rattle.store_check.specs.declared.before.Before.TheVariants.{NoVersion, NoPage, Page}
-use Rattle.store_check.specs.declared.refused.CheckRefused.{CheckRefused}
-use Rattle.store_check.specs.declared.refused.CheckRefused.TheVariants.{ReadFault, BadStore, Memory}
+use Rattle.store_check.specs.declared.refused.WalkRefused.{WalkRefused}
+use Rattle.store_check.specs.declared.refused.WalkRefused.TheVariants.{ReadFault, BadStore, Memory}
 use Rattle.store_check.specs.Before.{before_at, page_before, IsNodeHeld, PagesLie, BeforeLies}
 use Rattle.store_check.specs.declared.version.Prior.{Prior}
 use Rattle.store_check.specs.Versions.{prior_of, OneLies}
@@ -222,7 +222,7 @@ no_cause n (Some held) bytes places e is h = of e.refused e.past h
     never : (e : Refused) → (let r : Result (List ℕ × List ℕ) Refused = Ok (held, places) in r) ≡ Err e → ⊥
     never e is = absurd cc
 
-    of : (e : CheckRefused) (past : Half → Bool) → StopsBy {X = List ℕ} e past (Ok (held, places)) → IsNoCauseBy e past
+    of : (e : WalkRefused) (past : Half → Bool) → StopsBy {X = List ℕ} e past (Ok (held, places)) → IsNoCauseBy e past
     of (BadStore block why) past h = absurd cc
     of (ReadFault half) past h = λ late. never (h late).0 (h late).1
     of Memory past h = tt

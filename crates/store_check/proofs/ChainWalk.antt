@@ -10,7 +10,7 @@ use Rattle.store_model.specs.Chains.{version_at, chain_from, chain_at}
 use Rattle.store_check.specs.declared.version.FoundVersion.{FoundVersion}
 use Rattle.store_check.specs.Before.{PagesLie}
 use Rattle.store_check.specs.Versions.{shown_of}
-use Rattle.store_check.specs.declared.chain.Chain.{Chain}
+use Rattle.store_check.specs.declared.chain.FoundFile.{FoundFile}
 use Rattle.store_check.specs.Files.{first_serial, unset_base, kept_by, AllLie, LikeVersions, chain_of, chains_of}
 use Rattle.store_check.specs.Counts.{kept_in, kept_of}
 use Rattle.store_check.specs.Tops.{unset_of}
@@ -46,7 +46,7 @@ kept_chain (x ∷ xs) =
     let first : ℕ = first_serial (x ∷ xs) in
     let unset : Option ℕ = unset_base (x ∷ xs) in
     let kept : ℕ = kept_by (x ∷ xs) in
-    ap (λ o. kept_of (option_map (λ last. (let chain : Chain = record { last = shown_of last; first = first; unset = unset; kept = kept } in chain)) o)) (ends x xs).1
+    ap (λ o. kept_of (option_map (λ last. (let chain : FoundFile = record { last = shown_of last; first = first; unset = unset; kept = kept } in chain)) o)) (ends x xs).1
 
 -- the blocks that are kept of all objects are those that the files hold
 pub kept_heads : (files : List LaidFile) → sum_by kept_of (chains_of files) ≡ kept_in files
@@ -182,16 +182,16 @@ module _ (blocks : Blocks) (object namer n : ℕ) (places : List ℕ) where
 
 -- what is kept of a chain whose last version is kept
 pub chain_kept : (store : Store) (count serial kept : ℕ) (last : FoundVersion) (versions : List LaidVersion) → LikeVersions store count serial last versions → kept ≡ kept_by versions
-    → Some (let chain : Chain = record { last = last; first = serial; unset = None; kept = kept } in chain) ≡ chain_of versions
+    → Some (let chain : FoundFile = record { last = last; first = serial; unset = None; kept = kept } in chain) ≡ chain_of versions
 chain_kept store count serial kept last versions like counted = of (last_laid versions) like.is
   where
     of : (o : Option LaidVersion) → Some last ≡ option_map shown_of o
-        → Some (let chain : Chain = record { last = last; first = serial; unset = None; kept = kept } in chain)
+        → Some (let chain : FoundFile = record { last = last; first = serial; unset = None; kept = kept } in chain)
         ≡ option_map (λ v. record { last = shown_of v; first = first_serial versions; unset = unset_base versions; kept = kept_by versions }) o
     of None e = absurd cc
     of (Some v) e =
         let same : last ≡ shown_of v = cc in
-        ap (λ (w : FoundVersion). Some (let chain : Chain = record { last = w; first = serial; unset = None; kept = kept } in chain)) same
-        ∙ ap (λ (k : ℕ). Some (let chain : Chain = record { last = shown_of v; first = k; unset = None; kept = kept } in chain)) (sym like.begins)
-        ∙ ap (λ (o : Option ℕ). Some (let chain : Chain = record { last = shown_of v; first = first_serial versions; unset = o; kept = kept } in chain)) (sym like.set)
-        ∙ ap (λ (n : ℕ). Some (let chain : Chain = record { last = shown_of v; first = first_serial versions; unset = unset_base versions; kept = n } in chain)) counted
+        ap (λ (w : FoundVersion). Some (let chain : FoundFile = record { last = w; first = serial; unset = None; kept = kept } in chain)) same
+        ∙ ap (λ (k : ℕ). Some (let chain : FoundFile = record { last = shown_of v; first = k; unset = None; kept = kept } in chain)) (sym like.begins)
+        ∙ ap (λ (o : Option ℕ). Some (let chain : FoundFile = record { last = shown_of v; first = first_serial versions; unset = o; kept = kept } in chain)) (sym like.set)
+        ∙ ap (λ (n : ℕ). Some (let chain : FoundFile = record { last = shown_of v; first = first_serial versions; unset = unset_base versions; kept = n } in chain)) counted

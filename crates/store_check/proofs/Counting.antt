@@ -11,7 +11,7 @@ use Rattle.store_model.proofs.Steps.{Content, blocks_of, InRange, Ran, Framed, P
 use Rattle.store_model.proofs.Locality.{framed_rows, framed_files, framed_tops}
 use Rattle.store_model.proofs.Giving.{Gives, gives_bind, gives_done, gives_any}
 use Rattle.store_check.specs.Counts.{IsPlace, AreCounted, PlacesAreCounted}
-use Rattle.store_check.specs.declared.refused.CheckRefused.{CheckRefused}
+use Rattle.store_check.specs.declared.refused.WalkRefused.{WalkRefused}
 use Rattle.store_check.specs.declared.checking.Checked.{Checked}
 use Rattle.store_check.specs.declared.checking.Found.{Found}
 use Rattle.store_check.specs.Files.{chains_of}
@@ -71,13 +71,13 @@ places_are_counted content most store places e =
     walk_counted content p.value store places (subst (λ (ns : List ℕ). walk_from (blocks_of content p.value.blocks) p.value ns ≡ Ok (store, places)) none p.second)
 
 -- what a walk over a store shows
-abbrev pub StoreShown : (Half → Bool) → Content → ℕ → RootValue → List ℕ → Result Found CheckRefused → List ℕ → Type 0
+abbrev pub StoreShown : (Half → Bool) → Content → ℕ → RootValue → List ℕ → Result Found WalkRefused → List ℕ → Type 0
 StoreShown past content count root places found after =
     Shows past (λ (found : Found) (store : LaidStore). LikeTable found.table store × (found.linked.chains.items ≡ chains_of store.files) × (store.root ≡ root)) found
     (walk_from (blocks_of content count) root places) after
 
 -- the answer to a walk that ended so
-pub ended_answers : (past : Half → Bool) (content : Content) (root : RootValue) (found : Result Found CheckRefused) (count : ℕ) (places : List ℕ) (result : Result Checked CheckRefused) → count ≡ root.blocks
+pub ended_answers : (past : Half → Bool) (content : Content) (root : RootValue) (found : Result Found WalkRefused) (count : ℕ) (places : List ℕ) (result : Result Checked WalkRefused) → count ≡ root.blocks
     → IsEnded found count places result
     → StoreShown past content root.blocks root [] found places
     → Answers past result (walk_from (blocks_of content root.blocks) root [])
@@ -97,4 +97,4 @@ ended_answers past content root (Ok found) count places (Ok checked) size ended 
     )
 ended_answers past content root (Ok found) count places (Err e) size ended shows = absurd ended
 ended_answers past content root (Err e) count places (Ok checked) size ended shows = absurd ended
-ended_answers past content root (Err e) count places (Err f) size ended shows = subst (λ (g : CheckRefused). StopsBy g past (walk_from (blocks_of content root.blocks) root [])) (sym ended) shows
+ended_answers past content root (Err e) count places (Err f) size ended shows = subst (λ (g : WalkRefused). StopsBy g past (walk_from (blocks_of content root.blocks) root [])) (sym ended) shows

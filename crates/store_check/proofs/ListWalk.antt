@@ -9,7 +9,7 @@ use Rattle.store_model.specs.Tables.{Row as ModelRow, part_rows, parts_from, fil
 use Rattle.page_places.specs.Places.{Store}
 use Rattle.std.proofs.lemmas.List.{map-append}
 use Rattle.store_check.specs.declared.rows.Row.{Row}
-use Rattle.store_check.specs.declared.chain.Chain.{Chain}
+use Rattle.store_check.specs.declared.chain.FoundFile.{FoundFile}
 use Rattle.store_check.specs.Rows.{row_of}
 use Rattle.store_check.specs.Files.{AllLie, LikeFiles, chain_of, chains_of}
 use Rattle.store_check.proofs.Lying.{all_append}
@@ -126,7 +126,7 @@ unfolding files_from done
 no_files_left blocks seen object = refl
 
 -- the walk over the rows has come to one, and found files of which these are kept
-pub record FilesSoFar (store : Store) (blocks : Blocks) (rows : List Row) (first : List ℕ) (k : ℕ) (chains : List (Option Chain)) (seen : List ℕ) : Type 0 where
+pub record FilesSoFar (store : Store) (blocks : Blocks) (rows : List Row) (first : List ℕ) (k : ℕ) (chains : List (Option FoundFile)) (seen : List ℕ) : Type 0 where
   pub files : List LaidFile
   pub like : LikeFiles store blocks.count chains files
   pub is : SoFar (files_walk blocks) rows 1 first k files seen
@@ -139,7 +139,7 @@ files_begin store blocks rows first = record {
 }
 
 pub files_on :
-    (store : Store) (blocks : Blocks) (rows : List Row) (first : List ℕ) (k : ℕ) (chains longer : List (Option Chain)) (seen : List ℕ) (row : Row) (chain : Option Chain) (versions : List LaidVersion) (after : List ℕ)
+    (store : Store) (blocks : Blocks) (rows : List Row) (first : List ℕ) (k : ℕ) (chains longer : List (Option FoundFile)) (seen : List ℕ) (row : Row) (chain : Option FoundFile) (versions : List LaidVersion) (after : List ℕ)
     → k < length rows → row ≡ get_or rows k row → longer ≡ chains ++ chain ∷ []
     → FilesSoFar store blocks rows first k chains seen
     → chain ≡ chain_of versions → AllLie store blocks.count versions → file_at blocks (k + 1) (row_of row) seen ≡ Ok (versions, after)
@@ -149,7 +149,7 @@ files_on store blocks rows first k chains longer seen row chain versions after l
     record {
       files = far.files ++ file ∷ [];
       like = record {
-        is = longer_is ∙ ap (λ (xs : List (Option Chain)). xs ++ chain ∷ []) far.like.is ∙ ap (λ (o : Option Chain). chains_of far.files ++ o ∷ []) kept
+        is = longer_is ∙ ap (λ (xs : List (Option FoundFile)). xs ++ chain ∷ []) far.like.is ∙ ap (λ (o : Option FoundFile). chains_of far.files ++ o ∷ []) kept
             ∙ sym (map-append (λ (f : LaidFile). chain_of f.versions) far.files (file ∷ []));
         lie = all_append (λ (f : LaidFile). AllLie store blocks.count f.versions) far.files (file ∷ []) far.like.lie (lie, tt);
       };
@@ -158,7 +158,7 @@ files_on store blocks rows first k chains longer seen row chain versions after l
     }
 
 pub files_refused :
-    (store : Store) (blocks : Blocks) (rows : List Row) (first : List ℕ) (k : ℕ) (chains : List (Option Chain)) (seen : List ℕ) (row : Row) (e : Refused)
+    (store : Store) (blocks : Blocks) (rows : List Row) (first : List ℕ) (k : ℕ) (chains : List (Option FoundFile)) (seen : List ℕ) (row : Row) (e : Refused)
     → k < length rows → row ≡ get_or rows k row
     → FilesSoFar store blocks rows first k chains seen
     → file_at blocks (k + 1) (row_of row) seen ≡ Err e → files_from blocks 1 (map row_of rows) first ≡ Err e
@@ -167,7 +167,7 @@ files_refused store blocks rows first k chains seen row e low row_is far stopped
     (λ rest. file_refused blocks (k + 1) (row_of row) seen e stopped (map row_of rest))
 
 pub files_end :
-    (store : Store) (blocks : Blocks) (rows : List Row) (first : List ℕ) (k : ℕ) (chains : List (Option Chain)) (seen : List ℕ)
+    (store : Store) (blocks : Blocks) (rows : List Row) (first : List ℕ) (k : ℕ) (chains : List (Option FoundFile)) (seen : List ℕ)
     → length rows ≤ k → FilesSoFar store blocks rows first k chains seen
     → (files : List LaidFile) × LikeFiles store blocks.count chains files × (files_from blocks 1 (map row_of rows) first ≡ Ok (files, seen))
 files_end store blocks rows first k chains seen past far = (

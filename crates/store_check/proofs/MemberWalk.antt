@@ -16,11 +16,11 @@ use Rattle.store_model.specs.Walk.{Blocks, Walk, Refused, and_then, bind, done, 
 use Rattle.store_model.specs.Laid.{LaidVersion, LaidFile, last_laid}
 use Rattle.store_model.specs.Chains.{version_at}
 use Rattle.store_model.specs.Members.{Top as ModelTop, Linked as ModelLinked, names_none, last_in, with_version_at, version_linked, member_linked, members_linked, tops_linked}
-use Rattle.store_check.specs.declared.refused.CheckRefused.{CheckRefused}
-use Rattle.store_check.specs.declared.refused.CheckRefused.TheVariants.{BadStore}
+use Rattle.store_check.specs.declared.refused.WalkRefused.{WalkRefused}
+use Rattle.store_check.specs.declared.refused.WalkRefused.TheVariants.{BadStore}
 use Rattle.store_check.specs.declared.version.Prior.{Prior}
 use Rattle.store_check.specs.declared.version.FoundVersion.{FoundVersion}
-use Rattle.store_check.specs.declared.chain.Chain.{Chain}
+use Rattle.store_check.specs.declared.chain.FoundFile.{FoundFile}
 use Rattle.store_check.specs.declared.tops.Top.{Top}
 use Rattle.store_check.specs.declared.tops.Linked.{Linked}
 use Rattle.store_check.specs.Before.{PagesLie}
@@ -74,7 +74,7 @@ abbrev last_at : ℕ → List LaidFile → Option LaidVersion
 last_at i files = option_and_then (λ file. last_laid file.versions) (slice_get files i)
 
 pub record Longer (files : List LaidFile) (i : ℕ) (laid version : LaidVersion) : Type 0 where
-  pub chain : Chain
+  pub chain : FoundFile
   pub was : slice_get (chains_of files) i ≡ Some (Some chain)
   pub shows : chain.last ≡ shown_of laid
   pub is : chains_of (with_version_at i version files) ≡ set (chains_of files) i (Some (with_last (shown_of version) (own_pages version) chain))
@@ -84,7 +84,7 @@ first_stays : (versions : List LaidVersion) (laid version : LaidVersion) → las
 first_stays [] laid version e = absurd cc
 first_stays (x ∷ xs) laid version e = refl
 
-abbrev kept_as : FoundVersion → ℕ → Option ℕ → ℕ → Chain
+abbrev kept_as : FoundVersion → ℕ → Option ℕ → ℕ → FoundFile
 kept_as last first unset kept = record { last = last; first = first; unset = unset; kept = kept }
 
 pub longer_is : (files : List LaidFile) (i : ℕ) (laid version : LaidVersion) → last_at i files ≡ Some laid → Longer files i laid version
@@ -93,7 +93,7 @@ longer_is (file ∷ others) zero laid version e =
     let more : List LaidVersion = file.versions ++ version ∷ [] in
     record {
       chain = record { last = shown_of laid; first = first_serial file.versions; unset = unset_base file.versions; kept = kept_by file.versions };
-      was = ap (λ o. Some (option_map (λ last. (let c : Chain = record { last = shown_of last; first = first_serial file.versions; unset = unset_base file.versions; kept = kept_by file.versions } in c)) o)) e;
+      was = ap (λ o. Some (option_map (λ last. (let c : FoundFile = record { last = shown_of last; first = first_serial file.versions; unset = unset_base file.versions; kept = kept_by file.versions } in c)) o)) e;
       shows = refl;
       is = ap (λ o. option_map (λ last. kept_as (shown_of last) (first_serial more) (unset_base more) (kept_by more)) o ∷ chains_of others) (last_added file.versions version)
           ∙ ap (λ n. Some (kept_as (shown_of version) n (unset_base more) (kept_by more)) ∷ chains_of others) (first_stays file.versions laid version e)
@@ -145,7 +145,7 @@ module _ (blocks : Blocks) (model : ModelTop) (member : MemberValue) (from : Mod
   named_too files = done (let l : ModelLinked = record { files = files; named = member.object ∷ from.named } in l)
 
   -- what the last version that was found for a member says of the walk over the member
-  abbrev pub PriorTold : Option LaidVersion → Result Prior CheckRefused → Type 0
+  abbrev pub PriorTold : Option LaidVersion → Result Prior WalkRefused → Type 0
   PriorTold last (Ok prior) =
       (laid : LaidVersion) × (last ≡ Some laid) × (prior ≡ prior_of laid)
       × (member_linked blocks model member from last places ≡ and_then (version_linked blocks model.version.block member laid from.files places) named_too)
@@ -167,10 +167,10 @@ module _ (blocks : Blocks) (model : ModelTop) (member : MemberValue) (from : Mod
       ap (λ t. and_then ((if t then done t else refuse model.version.block Member) places) (λ _. bind (version_linked blocks model.version.block member laid from.files) named_too)) (sym e)
 
   by_last : (first : ℕ) (unset : Option ℕ) (kept : ℕ) (mark : Option Bool) (l : Option LaidVersion) → ((laid : LaidVersion) → l ≡ Some laid → mark ≡ Some (list_any (nat_eq member.object) from.named))
-      → PriorTold l (prior_in top member.object (Some (option_map (λ last. (let c : Chain = record { last = shown_of last; first = first; unset = unset; kept = kept } in c)) l)) mark)
+      → PriorTold l (prior_in top member.object (Some (option_map (λ last. (let c : FoundFile = record { last = shown_of last; first = first; unset = unset; kept = kept } in c)) l)) mark)
   by_last first unset kept mark None marked = refused_none
   by_last first unset kept mark (Some laid) marked =
-      let c : Chain = record { last = shown_of laid; first = first; unset = unset; kept = kept } in
+      let c : FoundFile = record { last = shown_of laid; first = first; unset = unset; kept = kept } in
       subst (λ (m : Option Bool). PriorTold (Some laid) (prior_in top member.object (Some (Some c)) m)) (sym (marked laid refl))
       (by_test laid (may_link model.object member.object (shown_of laid) (list_any (nat_eq member.object) from.named)) refl)
 
@@ -190,7 +190,7 @@ module _ (blocks : Blocks) (model : ModelTop) (member : MemberValue) (from : Mod
       i = member.object - 1
 
       chains_at : slice_get kept.chains.items i ≡ option_map (λ file. chain_of file.versions) (slice_get from.files i)
-      chains_at = ap (λ (cs : List (Option Chain)). slice_get cs i) like.files.is ∙ slice_get-map (λ (file : LaidFile). chain_of file.versions) from.files i
+      chains_at = ap (λ (cs : List (Option FoundFile)). slice_get cs i) like.files.is ∙ slice_get-map (λ (file : LaidFile). chain_of file.versions) from.files i
 
       size : length kept.named.items ≡ length from.files
       size = like.size ∙ ap length like.files.is ∙ length-map from.files (λ (file : LaidFile). chain_of file.versions)
@@ -204,7 +204,7 @@ module _ (blocks : Blocks) (model : ModelTop) (member : MemberValue) (from : Mod
           → PriorTold (cond b None (last_at i from.files)) (prior_in top member.object (cond b None (slice_get kept.chains.items i)) (cond b None (slice_get kept.named.items i)))
       by_zero true e = refused_none
       by_zero false e =
-          subst (λ (o : Option (Option Chain)). PriorTold (last_at i from.files) (prior_in top member.object o (slice_get kept.named.items i))) (sym chains_at)
+          subst (λ (o : Option (Option FoundFile)). PriorTold (last_at i from.files) (prior_in top member.object o (slice_get kept.named.items i))) (sym chains_at)
           (by_file (slice_get kept.named.items i) (slice_get from.files i) (mark_at e))
 
 drop_from_slice_get : {X : Type 0} (xs : List X) (k : ℕ) (x : X) → slice_get xs k ≡ Some x → drop k xs ≡ x ∷ drop (suc k) xs

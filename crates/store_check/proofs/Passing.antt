@@ -3,18 +3,18 @@ use Rattle.std.proofs.Common.{◌≡◌, ℕ, ◌<◌, Bool, List, Result, Ok, E
 use Rattle.drives.specs.declared.device.Half.{Half}
 use Rattle.pair_store.specs.declared.store.Blocks.{Ghosts}
 use Rattle.store_model.specs.Walk.{Refused}
-use Rattle.store_check.specs.declared.refused.CheckRefused.{CheckRefused}
-use Rattle.store_check.specs.declared.refused.CheckRefused.TheVariants.{ReadFault, BadStore, Memory}
+use Rattle.store_check.specs.declared.refused.WalkRefused.{WalkRefused}
+use Rattle.store_check.specs.declared.refused.WalkRefused.TheVariants.{ReadFault, BadStore, Memory}
 use Rattle.store_check.specs.Since.{is_past}
 use Rattle.store_check.specs.Surveyed.{SurveyValue, IsTold}
 use Rattle.store_check.specs.Results.{Outcome, Stop, StopsBy, Stops, Walks, Shows, Gets, IsNoCauseBy, IsNoCause}
 
 -- why the call on this store stopped
-abbrev pub stopped_at : {D : Type 0} → Ghosts D → D → CheckRefused → Stop
+abbrev pub stopped_at : {D : Type 0} → Ghosts D → D → WalkRefused → Stop
 stopped_at b store e = record { refused = e; past = is_past b store }
 
 -- a walk that stops where another one stops
-stops_by : {X Y : Type 0} (e : CheckRefused) (past : Half → Bool) (o : Outcome X) (p : Outcome Y) → StopsBy e past o
+stops_by : {X Y : Type 0} (e : WalkRefused) (past : Half → Bool) (o : Outcome X) (p : Outcome Y) → StopsBy e past o
     → ((cause : Refused) → o ≡ Err cause → p ≡ Err cause) → StopsBy e past p
 stops_by (BadStore block why) past o p h on = on (record { block = block; why = why }) h
 stops_by (ReadFault half) past o p h on = λ late. ((h late).0, on (h late).0 (h late).1)
@@ -24,7 +24,7 @@ pub stops_on : {X Y : Type 0} (e : Stop) (o : Outcome X) (p : Outcome Y) → Sto
 stops_on e o p h on = stops_by e.refused e.past o p h on
 
 -- where there is no cause, every walk stops so
-any_by : {X : Type 0} (e : CheckRefused) (past : Half → Bool) (o : Outcome X) → IsNoCauseBy e past → StopsBy e past o
+any_by : {X : Type 0} (e : WalkRefused) (past : Half → Bool) (o : Outcome X) → IsNoCauseBy e past → StopsBy e past o
 any_by (BadStore block why) past o h = absurd h
 any_by (ReadFault half) past o h = λ late. absurd (h late)
 any_by Memory past o h = tt
@@ -34,15 +34,15 @@ stops_any e o h = any_by e.refused e.past o h
 
 module _ {T X : Type 0} (Like : T → X → Type 0) where
   -- an early exit
-  pub shows_exit : (result : Result T CheckRefused) (e : Stop) (o : Outcome X) (after : List ℕ) → result ≡ Err e.refused → Stops e o → Shows e.past Like result o after
-  shows_exit result e o after is stops = let P : Result T CheckRefused → Type 0 = λ r. Shows e.past Like r o after in subst P (sym is) stops
+  pub shows_exit : (result : Result T WalkRefused) (e : Stop) (o : Outcome X) (after : List ℕ) → result ≡ Err e.refused → Stops e o → Shows e.past Like result o after
+  shows_exit result e o after is stops = let P : Result T WalkRefused → Type 0 = λ r. Shows e.past Like r o after in subst P (sym is) stops
 
   -- another walk that comes to the same
-  pub shows_as : (past : Half → Bool) (result : Result T CheckRefused) (o p : Outcome X) (after : List ℕ) → p ≡ o → Shows past Like result o after → Shows past Like result p after
+  pub shows_as : (past : Half → Bool) (result : Result T WalkRefused) (o p : Outcome X) (after : List ℕ) → p ≡ o → Shows past Like result o after → Shows past Like result p after
   shows_as past result o p after same shows = let P : Outcome X → Type 0 = λ r. Shows past Like result r after in subst P (sym same) shows
 
-pub gets_exit : {T : Type 0} (P : T → Type 0) (result : Result T CheckRefused) (e : Stop) → result ≡ Err e.refused → IsNoCause e → Gets e.past P result
-gets_exit {T} P result e is none = let Q : Result T CheckRefused → Type 0 = λ r. Gets e.past P r in subst Q (sym is) none
+pub gets_exit : {T : Type 0} (P : T → Type 0) (result : Result T WalkRefused) (e : Stop) → result ≡ Err e.refused → IsNoCause e → Gets e.past P result
+gets_exit {T} P result e is none = let Q : Result T WalkRefused → Type 0 = λ r. Gets e.past P r in subst Q (sym is) none
 
 module _ {D : Type 0} (g : Ghosts D) (a b : SurveyValue D) (began : b.began ≡ a.began) (count : b.count ≡ a.count) where
   pub told_on : IsTold g a → IsTold g b
@@ -70,6 +70,6 @@ pub prepended_twice : {X : Type 0} (here more : List X) (o : Outcome (List X)) �
 prepended_twice here more (Ok p) = ap (λ xs. Ok (xs, p.1)) (sym (append_assoc here more p.0))
 prepended_twice here more (Err e) = refl
 
-pub walks_exit : {T X : Type 0} (view : T → X) (result : Result T CheckRefused) (e : Stop) (o : Outcome X) (after : List ℕ) → result ≡ Err e.refused → Stops e o
+pub walks_exit : {T X : Type 0} (view : T → X) (result : Result T WalkRefused) (e : Stop) (o : Outcome X) (after : List ℕ) → result ≡ Err e.refused → Stops e o
     → Walks e.past view result o after
-walks_exit {T} view result e o after is stops = let P : Result T CheckRefused → Type 0 = λ r. Walks e.past view r o after in subst P (sym is) stops
+walks_exit {T} view result e o after is stops = let P : Result T WalkRefused → Type 0 = λ r. Walks e.past view r o after in subst P (sym is) stops

@@ -8,8 +8,8 @@ use Rattle.drives.specs.declared.device.Half.{Half}
 use Rattle.store_model.specs.Walk.{Blocks, Refused, and_then, bind, done, refuse}
 use Rattle.store_model.specs.Laid.{Node, block_in, is_block}
 use Rattle.store_model.specs.Pages.{Below, page_at, own_node, own_from, named_from, slot_from, slots_from, pages_below}
-use Rattle.store_check.specs.declared.refused.CheckRefused.{CheckRefused}
-use Rattle.store_check.specs.declared.refused.CheckRefused.TheVariants.{ReadFault, BadStore, Memory}
+use Rattle.store_check.specs.declared.refused.WalkRefused.{WalkRefused}
+use Rattle.store_check.specs.declared.refused.WalkRefused.TheVariants.{ReadFault, BadStore, Memory}
 use Rattle.store_check.specs.Before.{own_block, before_at, page_before, is_page, is_first}
 use Rattle.store_check.proofs.Passing.{prepended, prepended_nothing, prepended_twice}
 use Rattle.store_check.specs.Results.{Outcome, Stop, StopsBy, Stops, ShowsNone}
@@ -27,7 +27,7 @@ below_is blocks nodes (suc d) namer path refs seen some =
     ap (λ (n : ℕ). slots_from blocks (pages_below blocks nodes n) nodes namer path 0 refs seen) (let e : d ≡ suc d - 1 = Prim.omega arith in e)
 
 -- what a slot's choice says of the walk over the slot
-abbrev pub Chosen : Result (Option ℕ) CheckRefused → Outcome (List Node) → (ℕ → Outcome (List Node)) → List ℕ → Type 0
+abbrev pub Chosen : Result (Option ℕ) WalkRefused → Outcome (List Node) → (ℕ → Outcome (List Node)) → List ℕ → Type 0
 Chosen (Ok None) outcome own seen = (nodes : List Node) × (outcome ≡ Ok (nodes, seen))
 Chosen (Ok (Some block)) outcome own seen = outcome ≡ own block
 Chosen (Err (BadStore block why)) outcome own seen = outcome ≡ Err (record { block = block; why = why })
@@ -65,7 +65,7 @@ module _ (blocks : Blocks) (below : Below) where
   unfolding own_from bind
   own_refused namer path reference block seen e is = ap (λ r. and_then r (λ page. bind (below block path page.refs) (λ others. done (own_node path reference block page ∷ others)))) is
 
-  own_then : (past : Half → Bool) (path : List ℕ) (reference : ReferenceValue) (block : ℕ) (page : PageValue) (after : List ℕ) (result : Result (Unit {0}) CheckRefused) (outcome : Outcome (List Node))
+  own_then : (past : Half → Bool) (path : List ℕ) (reference : ReferenceValue) (block : ℕ) (page : PageValue) (after : List ℕ) (result : Result (Unit {0}) WalkRefused) (outcome : Outcome (List Node))
       → ShowsNone past result outcome after → ShowsNone past result (and_then outcome (λ others. done (own_node path reference block page ∷ others))) after
   unfolding done
   own_then past path reference block page after (Ok x) outcome (nodes, u, is) = (own_node path reference block page ∷ nodes, tt, ap (λ r. and_then r (λ others s. Ok (own_node path reference block page ∷ others, s))) is)
@@ -75,7 +75,7 @@ module _ (blocks : Blocks) (below : Below) where
   own_then past path reference block page after (Err Memory) outcome is = tt
 
   -- a page of the version's own, and the pages below it
-  pub own_shown : (past : Half → Bool) (namer : ℕ) (path : List ℕ) (reference : ReferenceValue) (block : ℕ) (page : PageValue) (seen between after : List ℕ) (result : Result (Unit {0}) CheckRefused)
+  pub own_shown : (past : Half → Bool) (namer : ℕ) (path : List ℕ) (reference : ReferenceValue) (block : ℕ) (page : PageValue) (seen between after : List ℕ) (result : Result (Unit {0}) WalkRefused)
       → page_at blocks namer block (length path) seen ≡ Ok (page, between) → ShowsNone past result (below block path page.refs between) after
       → ShowsNone past result (own_from blocks below namer path reference block seen) after
   unfolding own_from bind
@@ -87,7 +87,7 @@ module _ (blocks : Blocks) (below : Below) where
 pub chosen_none : (e : Stop) (outcome : Outcome (List Node)) (own : ℕ → Outcome (List Node)) (seen : List ℕ) → Chosen (Err e.refused) outcome own seen → Stops e outcome
 chosen_none e outcome own seen h = of e.refused e.past h
   where
-    of : (e : CheckRefused) (past : Half → Bool) → Chosen (Err e) outcome own seen → StopsBy e past outcome
+    of : (e : WalkRefused) (past : Half → Bool) → Chosen (Err e) outcome own seen → StopsBy e past outcome
     of (BadStore block why) past h = h
     of (ReadFault half) past h = absurd h
     of Memory past h = absurd h

@@ -12,12 +12,12 @@ use Rattle.store_model.specs.Tables.{Row as ModelRow, table_rows, files_from}
 use Rattle.store_model.specs.Members.{Top as ModelTop, Linked as ModelLinked, last_in, with_version_at, version_linked, member_linked, members_linked, tops_from, tops_linked}
 use Rattle.store_model.specs.Found.{LaidStore, laid_from, laid}
 use Rattle.store_model.proofs.Giving.{Gives, gives_bind, gives_done, gives_refuse, gives_any, gives_if}
-use Rattle.store_check.specs.declared.refused.CheckRefused.{CheckRefused}
-use Rattle.store_check.specs.declared.refused.CheckRefused.TheVariants.{ReadFault, BadStore, Memory}
+use Rattle.store_check.specs.declared.refused.WalkRefused.{WalkRefused}
+use Rattle.store_check.specs.declared.refused.WalkRefused.TheVariants.{ReadFault, BadStore, Memory}
 use Rattle.store_check.specs.declared.checking.Checked.{Checked}
 use Rattle.store_check.specs.declared.checking.Found.{Found}
 use Rattle.store_check.specs.declared.rows.Row.{Row}
-use Rattle.store_check.specs.declared.chain.Chain.{Chain}
+use Rattle.store_check.specs.declared.chain.FoundFile.{FoundFile}
 use Rattle.store_check.specs.declared.tops.Top.{Top}
 use Rattle.store_check.specs.declared.tops.Linked.{Linked}
 use Rattle.store_check.specs.Rows.{row_of}
@@ -108,7 +108,7 @@ like_first store count places kept files like few marks = record {
   size = ap length marks ∙ length_marks (length kept.chains.items);
 }
 
-pub tops_shown : (store : Store) (count : ℕ) (chains : List (Option Chain)) (files : List LaidFile) (tops : List Top) → LikeFiles store count chains files → tops ≡ tops_in 1 chains → tops ≡ map shown_top (tops_from 1 files)
+pub tops_shown : (store : Store) (count : ℕ) (chains : List (Option FoundFile)) (files : List LaidFile) (tops : List Top) → LikeFiles store count chains files → tops ≡ tops_in 1 chains → tops ≡ map shown_top (tops_from 1 files)
 tops_shown store count chains files tops like is = is ∙ ap (tops_in 1) like.is ∙ sym (tops_are 1 files)
 
 -- ---- the walk from block 0 on
@@ -193,7 +193,7 @@ root_gives content most places after root e = by_content (content 0) refl e
     by_content (Some bytes) here h = by_root bytes (root_of bytes) here refl h
 
 -- the answer to a walk that ended so
-pub ended_error : (found : Result Found CheckRefused) (count : ℕ) (places : List ℕ) (result : Result Checked CheckRefused) (e : CheckRefused) → IsEnded found count places result → result ≡ Err e → found ≡ Err e
+pub ended_error : (found : Result Found WalkRefused) (count : ℕ) (places : List ℕ) (result : Result Checked WalkRefused) (e : WalkRefused) → IsEnded found count places result → result ≡ Err e → found ≡ Err e
 ended_error (Ok found) count places (Ok checked) e is h = absurd cc
 ended_error (Ok found) count places (Err f) e is h = absurd is
 ended_error (Err d) count places (Ok checked) e is h = absurd is
@@ -201,7 +201,7 @@ ended_error (Err d) count places (Err f) e is h =
     let same : f ≡ e = cc in
     ap Err (sym is ∙ same)
 
-pub answers_as : (past : Half → Bool) (result : Result Checked CheckRefused) (o p : Outcome LaidStore) → p ≡ o → Answers past result o → Answers past result p
+pub answers_as : (past : Half → Bool) (result : Result Checked WalkRefused) (o p : Outcome LaidStore) → p ≡ o → Answers past result o → Answers past result p
 answers_as past result o p same h = let P : Outcome LaidStore → Type 0 = λ q. Answers past result q in subst P (sym same) h
 
 -- what a walk over all of a store shows, from what its last part shows
@@ -209,7 +209,7 @@ pub store_shown :
     (past : Half → Bool) (blocks : Blocks) (root : RootValue) (places : List ℕ) (rows : List Row) (s1 : List ℕ) (rows_are : table_rows blocks root places ≡ Ok (map row_of rows, s1))
     (files : List LaidFile) (s2 : List ℕ) (files_are : files_from blocks 1 (map row_of rows) s1 ≡ Ok (files, s2))
     (table : TableValue) → table.format ≡ root.format → table.blocks ≡ root.blocks → table.key ≡ root.key → table.parts ≡ root.parts → table.entries ≡ map (λ (row : Row). row.entry) rows
-    → (result : Result Found CheckRefused) (after : List ℕ)
+    → (result : Result Found WalkRefused) (after : List ℕ)
     → Shows past (λ (found : Found) (linked : ModelLinked). (found.table ≡ table) × (found.linked.chains.items ≡ chains_of linked.files)) result
     (tops_linked blocks (tops_from 1 files) (record { files = files; named = [] }) s2) after
     → Shows past (λ (found : Found) (store : LaidStore). LikeTable found.table store × (found.linked.chains.items ≡ chains_of store.files) × (store.root ≡ root)) result (walk_from blocks root places) after

@@ -7,8 +7,8 @@ use Rattle.page_places.specs.Places.{Store, block_at}
 use Rattle.store_model.specs.Laid.{Node, block_in}
 use Rattle.store_check.specs.declared.before.Before.{Before}
 use Rattle.store_check.specs.declared.before.Before.TheVariants.{NoVersion, NoPage, Page}
-use Rattle.store_check.specs.declared.refused.CheckRefused.{CheckRefused}
-use Rattle.store_check.specs.declared.refused.CheckRefused.TheVariants.{BadStore}
+use Rattle.store_check.specs.declared.refused.WalkRefused.{WalkRefused}
+use Rattle.store_check.specs.declared.refused.WalkRefused.TheVariants.{BadStore}
 
 -- a page in this block, or none
 abbrev pub page_before : Option ℕ → Before
@@ -58,7 +58,7 @@ is_page block (Page other) = block == other
 
 -- The block of a page of the version's own that a slot of a page names, if it names one. In the first version every page is; in a
 -- later one a page that was copied, and every other is the page of the version before, or refused.
-abbrev pub own_block : ℕ → ReferenceValue → Before → Option ℕ → Result (Option ℕ) CheckRefused
+abbrev pub own_block : ℕ → ReferenceValue → Before → Option ℕ → Result (Option ℕ) WalkRefused
 own_block namer reference before None = Ok None
 own_block namer reference before (Some block) =
     if is_first before || reference.flags.copied

@@ -9,7 +9,7 @@ use Rattle.store_model.specs.Walk.{Blocks, Walk, ◌>>=◌, ◌>>◌, done, chec
 use Rattle.store_model.specs.Tables.{table_rows, files_from}
 use Rattle.store_model.specs.Members.{tops_from, tops_linked}
 use Rattle.store_model.specs.Found.{LaidStore}
-use Rattle.store_check.specs.declared.refused.CheckRefused.{CheckRefused}
+use Rattle.store_check.specs.declared.refused.WalkRefused.{WalkRefused}
 use Rattle.store_check.specs.declared.checking.Checked.{Checked}
 use Rattle.store_check.specs.declared.checking.Found.{Found}
 use Rattle.store_check.specs.Marks.{Marks}
@@ -52,17 +52,17 @@ pub record LikeStore (checked : Checked) (store : LaidStore) (places : List ℕ)
 
 -- The answer is the store that is found, or the first cause. After a fault of a half that was not in the last call of a device there is a cause
 -- too; a fault in the last call and want of memory say nothing.
-abbrev pub Answers : (Half → Bool) → Result Checked CheckRefused → Outcome LaidStore → Type 0
+abbrev pub Answers : (Half → Bool) → Result Checked WalkRefused → Outcome LaidStore → Type 0
 Answers past (Ok checked) outcome = (store : LaidStore) × (places : List ℕ) × (outcome ≡ Ok (store, places)) × LikeStore checked store places
 Answers past (Err e) outcome = Stops (record { refused = e; past = past }) outcome
 
 -- block 0 is settled, and where it is a table, every block of the store is
-pub record IsMended (settled : ℕ → Type 0) (content : ℕ → Option (List ℕ)) (size : ℕ) : Type 0 where
+pub record AreSettled (settled : ℕ → Type 0) (content : ℕ → Option (List ℕ)) (size : ℕ) : Type 0 where
   pub table : settled 0
   pub others : (bytes : List ℕ) (root : RootValue) → content 0 ≡ Some bytes → root_of bytes ≡ Ok root → (n : ℕ) → n < root.blocks → n < size → settled n
 
 -- the answer of a walk that ended so, with the map of these places
-abbrev pub IsEnded : Result Found CheckRefused → ℕ → List ℕ → Result Checked CheckRefused → Type 0
+abbrev pub IsEnded : Result Found WalkRefused → ℕ → List ℕ → Result Checked WalkRefused → Type 0
 IsEnded (Ok found) count places (Ok checked) =
     (checked.table ≡ found.table) × (checked.heads ≡ found.linked.chains) × (length checked.map ≡ count) × Marks places checked.map
     × (free_count checked.map + 1 + length places ≡ count)

@@ -5,7 +5,7 @@ use Rattle.std.specs.Option.{is_some}
 use Rattle.page_codec.specs.Values.{RootValue}
 use Rattle.store_model.specs.Laid.{LaidFile}
 use Rattle.store_model.specs.Found.{LaidStore, laid}
-use Rattle.store_check.specs.declared.chain.Chain.{Chain}
+use Rattle.store_check.specs.declared.chain.FoundFile.{FoundFile}
 use Rattle.store_check.specs.Files.{kept_by}
 
 -- how many blocks the table has beside block 0
@@ -17,7 +17,7 @@ abbrev pub kept_in : List LaidFile → ℕ
 kept_in files = sum_by (λ file. kept_by file.versions) files
 
 -- how many blocks the file of an object holds, where it is live
-abbrev pub kept_of : Option Chain → ℕ
+abbrev pub kept_of : Option FoundFile → ℕ
 kept_of None = 0
 kept_of (Some chain) = chain.kept
 

@@ -5,7 +5,7 @@ use Rattle.std.specs.Option.{is_none}
 use Rattle.page_places.specs.Places.{Store}
 use Rattle.store_model.specs.Laid.{LaidVersion, LaidFile, last_laid}
 use Rattle.store_check.specs.declared.version.FoundVersion.{FoundVersion}
-use Rattle.store_check.specs.declared.chain.Chain.{Chain}
+use Rattle.store_check.specs.declared.chain.FoundFile.{FoundFile}
 use Rattle.store_check.specs.Before.{PagesLie}
 use Rattle.store_check.specs.Versions.{shown_of}
 
@@ -31,14 +31,14 @@ kept_by versions = sum_by own_pages versions
 
 -- what is kept of the versions of a file: its last one, the serial of its first one, the version whose link to the last one is
 -- outstanding, and how many blocks they hold
-abbrev pub chain_of : List LaidVersion → Option Chain
+abbrev pub chain_of : List LaidVersion → Option FoundFile
 chain_of versions =
     option_map
     (λ last. record { last = shown_of last; first = first_serial versions; unset = unset_base versions; kept = kept_by versions })
     (last_laid versions)
 
 -- what is kept of files
-abbrev pub chains_of : List LaidFile → List (Option Chain)
+abbrev pub chains_of : List LaidFile → List (Option FoundFile)
 chains_of files = map (λ file. chain_of file.versions) files
 
 -- the pages of each version lie
@@ -56,6 +56,6 @@ pub record LikeVersions (store : Store) (count serial : ℕ) (last : FoundVersio
   pub lie : AllLie store count versions
 
 -- what is kept of these files, whose versions all lie
-pub record LikeFiles (store : Store) (count : ℕ) (chains : List (Option Chain)) (files : List LaidFile) : Type 0 where
+pub record LikeFiles (store : Store) (count : ℕ) (chains : List (Option FoundFile)) (files : List LaidFile) : Type 0 where
   pub is : chains ≡ chains_of files
   pub lie : FilesLie store count files

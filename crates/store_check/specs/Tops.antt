@@ -5,23 +5,23 @@ use Rattle.std.specs.Option.{is_none}
 use Rattle.page_codec.specs.declared.why.Why.TheVariants.{Member}
 use Rattle.page_places.specs.Places.{Store}
 use Rattle.store_model.specs.Members.{Top as ModelTop, Linked as ModelLinked}
-use Rattle.store_check.specs.declared.refused.CheckRefused.{CheckRefused}
-use Rattle.store_check.specs.declared.refused.CheckRefused.TheVariants.{BadStore}
+use Rattle.store_check.specs.declared.refused.WalkRefused.{WalkRefused}
+use Rattle.store_check.specs.declared.refused.WalkRefused.TheVariants.{BadStore}
 use Rattle.store_check.specs.declared.version.Prior.{Prior}
 use Rattle.store_check.specs.declared.version.FoundVersion.{FoundVersion}
-use Rattle.store_check.specs.declared.chain.Chain.{Chain}
+use Rattle.store_check.specs.declared.chain.FoundFile.{FoundFile}
 use Rattle.store_check.specs.declared.tops.Top.{Top}
 use Rattle.store_check.specs.declared.tops.Linked.{Linked}
 use Rattle.store_check.specs.Files.{LikeFiles}
 use Rattle.store_check.specs.Counts.{kept_in}
 
 -- the object, whose last version this is, as a top where that names members
-abbrev pub top_in : ℕ → Option Chain → List Top
+abbrev pub top_in : ℕ → Option FoundFile → List Top
 top_in object None = []
 top_in object (Some chain) = if length chain.last.members == 0 then [] else record { object = object; block = chain.last.block; members = chain.last.members } ∷ []
 
 -- the tops from this object on, ascending
-abbrev pub tops_in : ℕ → List (Option Chain) → List Top
+abbrev pub tops_in : ℕ → List (Option FoundFile) → List Top
 tops_in object [] = []
 tops_in object (chain ∷ others) = top_in object chain ++ tops_in (suc object) others
 
@@ -50,7 +50,7 @@ abbrev pub may_link : ℕ → ℕ → FoundVersion → Bool → Bool
 may_link top object last mark = not (object == top) && length last.members == 0 && not mark
 
 -- the last version of a member, where its object is live and may be one
-abbrev pub prior_in : Top → ℕ → Option (Option Chain) → Option Bool → Result Prior CheckRefused
+abbrev pub prior_in : Top → ℕ → Option (Option FoundFile) → Option Bool → Result Prior WalkRefused
 prior_in top object None mark = Err (BadStore top.block Member)
 prior_in top object (Some None) mark = Err (BadStore top.block Member)
 prior_in top object (Some (Some chain)) None = Err (BadStore top.block Member)
@@ -62,5 +62,5 @@ abbrev pub unset_of : FoundVersion → Option ℕ
 unset_of version = if is_none version.commit then Some version.block else None
 
 -- what is kept of a file with one more version, which holds so many blocks
-abbrev pub with_last : FoundVersion → ℕ → Chain → Chain
+abbrev pub with_last : FoundVersion → ℕ → FoundFile → FoundFile
 with_last last pages chain = record { last = last; first = chain.first; unset = unset_of chain.last; kept = chain.kept + pages }

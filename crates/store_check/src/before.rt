@@ -3,7 +3,7 @@ ghost use Rattle.std.specs.Prelude.{◌≡◌, ◌==◌, ◌<◌, ℕ, length, S
 ghost use Rattle.std.specs.Option.{option_and_then};
 ghost use Rattle.store_check.specs.Before.{befores_of, is_first, is_page, own_block, page_before};
 
-use crate::refused::CheckRefused;
+use crate::refused::WalkRefused;
 use afs_base::BlockNo;
 use page_codec::{Reference, SLOTS, Why};
 
@@ -83,7 +83,7 @@ pub fn own_block(
     namer: BlockNo,
     reference: &Reference,
     before: &Before,
-) -> Result<Option<BlockNo>, CheckRefused>
+) -> Result<Option<BlockNo>, WalkRefused>
     ensures { result ≡ own_block namer reference.now before.now reference.now.block }
 {
     match reference.block {
@@ -94,7 +94,7 @@ pub fn own_block(
             } else if before.is_page(block) {
                 Ok(None)
             } else {
-                Err(CheckRefused::BadStore {
+                Err(WalkRefused::BadStore {
                     block: namer,
                     why: Why::Reference,
                 })

@@ -8,11 +8,11 @@ ghost use Rattle.store_check.specs.Before.{PagesLie};
 ghost use Rattle.store_check.specs.Versions.{shown_of};
 ghost use Rattle.store_check.specs.Since.{IsUnreadSince, is_past};
 ghost use Rattle.store_check.specs.Surveyed.{IsTold, blocks_in};
-ghost use Rattle.store_check.specs.declared.refused.CheckRefused.{CheckRefused};
+ghost use Rattle.store_check.specs.declared.refused.WalkRefused.{WalkRefused};
 ghost use Rattle.store_check.specs.Results.{Shows};
 ghost use Rattle.store_check.specs.Files.{AllLie, LikeVersions, chain_of};
 
-use crate::refused::CheckRefused;
+use crate::refused::WalkRefused;
 use crate::survey::Survey;
 use crate::version::{FoundVersion, Prior, version_at};
 use afs_base::BlockNo;
@@ -20,7 +20,7 @@ use pair_store::Blocks;
 
 /// What is kept of a file.
 #[derive(Debug, Drop)]
-pub struct Chain {
+pub struct FoundFile {
     /// Its last version.
     pub last: FoundVersion,
     /// The serial of its first version.
@@ -37,7 +37,7 @@ fn next_at<B: Blocks>(
     object: u32,
     last: &FoundVersion,
     n: BlockNo,
-) -> Result<FoundVersion, CheckRefused>
+) -> Result<FoundVersion, WalkRefused>
     ensures began { survey.new.began ≡ survey.old.began }
     ensures count { survey.new.count ≡ survey.old.count }
     ensures walk { IsTold B.Blocks survey.old → (laid : LaidVersion)
@@ -49,7 +49,7 @@ fn next_at<B: Blocks>(
         result
         (version_at (blocks_in B.content survey.old) object laid.block n
         (Some laid) survey.old.list) survey.new.list }
-    ensures unread { (h : Half) → IsErrOf result (CheckRefused.ReadFault h)
+    ensures unread { (h : Half) → IsErrOf result (WalkRefused.ReadFault h)
         → IsUnreadSince B.Blocks survey.new.began survey.new.store h }
 {
     let before = Some(Prior {
@@ -64,7 +64,7 @@ fn last_from<B: Blocks>(
     survey: &mut Survey<B>,
     object: u32,
     first: FoundVersion,
-) -> Result<FoundVersion, CheckRefused>
+) -> Result<FoundVersion, WalkRefused>
     ensures began { survey.new.began ≡ survey.old.began }
     ensures count { survey.new.count ≡ survey.old.count }
     ensures walk { IsTold B.Blocks survey.old → (laid : LaidVersion)
@@ -74,7 +74,7 @@ fn last_from<B: Blocks>(
         (LikeVersions (pages_of (B.content survey.old.began)) survey.old.count laid.serial) result
         (chain_from (blocks_in B.content survey.old) object survey.old.count laid survey.old.list)
         survey.new.list }
-    ensures unread { (h : Half) → IsErrOf result (CheckRefused.ReadFault h)
+    ensures unread { (h : Half) → IsErrOf result (WalkRefused.ReadFault h)
         → IsUnreadSince B.Blocks survey.new.began survey.new.store h }
 {
     let mut last = first;
@@ -94,7 +94,7 @@ pub fn chain_at<B: Blocks>(
     object: u32,
     namer: BlockNo,
     n: BlockNo,
-) -> Result<Chain, CheckRefused>
+) -> Result<FoundFile, WalkRefused>
     ensures began { survey.new.began ≡ survey.old.began }
     ensures count { survey.new.count ≡ survey.old.count }
     ensures walk { IsTold B.Blocks survey.old
@@ -102,14 +102,14 @@ pub fn chain_at<B: Blocks>(
         (λ chain (versions : List LaidVersion). (Some chain ≡ chain_of versions)
         × AllLie (pages_of (B.content survey.old.began)) survey.old.count versions) result
         (chain_at (blocks_in B.content survey.old) object namer n survey.old.list) survey.new.list }
-    ensures unread { (h : Half) → IsErrOf result (CheckRefused.ReadFault h)
+    ensures unread { (h : Half) → IsErrOf result (WalkRefused.ReadFault h)
         → IsUnreadSince B.Blocks survey.new.began survey.new.store h }
 {
     let found = survey.found();
     let first = version_at(survey, object, namer, n, &None)?;
     let serial = first.serial;
     let last = last_from(survey, object, first)?;
-    Ok(Chain {
+    Ok(FoundFile {
         last,
         first: serial,
         unset: None,

@@ -7,17 +7,17 @@ ghost use Rattle.store_model.specs.Members.{Linked as ModelLinked, tops_from, to
 ghost use Rattle.store_model.specs.Found.{LaidStore, laid};
 ghost use Rattle.store_check.specs.Since.{IsUnreadSince, OnlyRead, is_past};
 ghost use Rattle.store_check.specs.Surveyed.{IsTold, blocks_in};
-ghost use Rattle.store_check.specs.declared.refused.CheckRefused.{CheckRefused};
+ghost use Rattle.store_check.specs.declared.refused.WalkRefused.{WalkRefused};
 ghost use Rattle.store_check.specs.Results.{Shows, Walks};
 ghost use Rattle.store_check.specs.Files.{LikeFiles, chains_of};
 ghost use Rattle.store_check.specs.Counts.{kept_in};
-ghost use Rattle.store_check.specs.Checked.{Answers, IsEnded, IsMended, LikeTable, root_from, walk_from};
+ghost use Rattle.store_check.specs.Checked.{Answers, IsEnded, AreSettled, LikeTable, root_from, walk_from};
 
-use crate::chain::Chain;
+use crate::chain::FoundFile;
 use crate::files::files_from;
 use crate::places::Places;
 use crate::reading::Reading;
-use crate::refused::CheckRefused;
+use crate::refused::WalkRefused;
 use crate::rows::{Row, root_block, table_rows};
 use crate::survey::Survey;
 use crate::tops::{Linked, link_tops, tops_of};
@@ -32,33 +32,33 @@ use std::alloc::Global;
 pub struct Checked {
     pub table: Table,
     pub map: BlockMap,
-    pub heads: Vec<Option<Chain>>,
+    pub heads: Vec<Option<FoundFile>>,
 }
 
 /// Block 0 of a store on halves of so many blocks.
 #[tactic(auto, unfolding(crate::specs::Checked::root_from, store_model::specs::Walk::bind, store_model::specs::Walk::decoded, store_model::specs::Walk::check, store_model::specs::Walk::refuse, store_model::specs::Walk::done))]
-fn read_root<B: Blocks>(reading: &mut Reading<B>, most: u32) -> Result<TableRoot, CheckRefused>
+fn read_root<B: Blocks>(reading: &mut Reading<B>, most: u32) -> Result<TableRoot, WalkRefused>
     requires { 0 < B.size reading.old.began }
     ensures began { reading.new.began ≡ reading.old.began }
     ensures fits { IfOk result (λ root. root.blocks ≤ most) }
     ensures walk { B.tells → B.settled reading.old.began 0
         → Walks (is_past B.Blocks reading.new.store) (λ root. root) result
         (root_from (B.content reading.old.began) most []) [] }
-    ensures unread { (h : Half) → IsErrOf result (CheckRefused.ReadFault h)
+    ensures unread { (h : Half) → IsErrOf result (WalkRefused.ReadFault h)
         → IsUnreadSince B.Blocks reading.new.began reading.new.store h }
 {
     let block = reading.read(root_block())?;
     match decode_root(&block) {
         Ok(root) => {
             if root.blocks > most {
-                return Err(CheckRefused::BadStore {
+                return Err(WalkRefused::BadStore {
                     block: root_block(),
                     why: Why::Blocks,
                 });
             }
             Ok(root)
         }
-        Err(bad) => Err(CheckRefused::BadStore {
+        Err(bad) => Err(WalkRefused::BadStore {
             block: root_block(),
             why: bad.why,
         }),
@@ -117,8 +117,8 @@ fn link_files<B: Blocks>(
     alloc: Global,
     survey: &mut Survey<B>,
     table: Table,
-    chains: Vec<Option<Chain>>,
-) -> Result<Found, CheckRefused>
+    chains: Vec<Option<FoundFile>>,
+) -> Result<Found, WalkRefused>
     requires { length chains.items ≤ 4032 }
     ensures began { survey.new.began ≡ survey.old.began }
     ensures count { survey.new.count ≡ survey.old.count }
@@ -130,7 +130,7 @@ fn link_files<B: Blocks>(
         × (found.linked.chains.items ≡ chains_of linked.files)) result
         (tops_linked (blocks_in B.content survey.old) (tops_from 1 files)
         (record { files = files; named = [] }) survey.old.list) survey.new.list }
-    ensures unread { (h : Half) → IsErrOf result (CheckRefused.ReadFault h)
+    ensures unread { (h : Half) → IsErrOf result (WalkRefused.ReadFault h)
         → IsUnreadSince B.Blocks survey.new.began survey.new.store h }
 {
     let tops = tops_of(alloc, chains.as_slice())?;
@@ -145,7 +145,7 @@ fn walk<B: Blocks>(
     alloc: Global,
     survey: &mut Survey<B>,
     root: &TableRoot,
-) -> Result<Found, CheckRefused>
+) -> Result<Found, WalkRefused>
     ensures began { survey.new.began ≡ survey.old.began }
     ensures count { survey.new.count ≡ survey.old.count }
     ensures walk { IsTold B.Blocks survey.old
@@ -153,7 +153,7 @@ fn walk<B: Blocks>(
         (λ found (store : LaidStore). LikeTable found.table store
         × (found.linked.chains.items ≡ chains_of store.files) × (store.root ≡ root.now)) result
         (walk_from (blocks_in B.content survey.old) root.now survey.old.list) survey.new.list }
-    ensures unread { (h : Half) → IsErrOf result (CheckRefused.ReadFault h)
+    ensures unread { (h : Half) → IsErrOf result (WalkRefused.ReadFault h)
         → IsUnreadSince B.Blocks survey.new.began survey.new.store h }
 {
     let rows = table_rows(survey, alloc, root)?;
@@ -180,8 +180,8 @@ fn checked_of(found: Found, map: BlockMap) -> Checked
 /// The answer of the check whose walk ended so, with the store.
 fn ended<B: Blocks>(
     survey: Survey<B>,
-    found: Result<Found, CheckRefused>,
-) -> (B, Result<Checked, CheckRefused>)
+    found: Result<Found, WalkRefused>,
+) -> (B, Result<Checked, WalkRefused>)
     ensures only { OnlyRead B.Blocks survey.began result.0 }
     ensures store { result.0 ≡ survey.store }
     ensures answer { IsEnded found survey.count survey.list result.1 }
@@ -199,7 +199,7 @@ fn walk_store<B: Blocks>(
     alloc: Global,
     reading: Reading<B>,
     root: &TableRoot,
-) -> (B, Result<Checked, CheckRefused>)
+) -> (B, Result<Checked, WalkRefused>)
     requires { root.now.blocks ≤ B.size reading.began }
     ensures only { OnlyRead B.Blocks reading.began result.0 }
     ensures fits { IfOk result.1 (λ checked. length checked.map ≤ B.size reading.began) }
@@ -207,11 +207,11 @@ fn walk_store<B: Blocks>(
         → Answers (is_past B.Blocks result.0) result.1
         (walk_from (record { content = B.content reading.began; count = root.now.blocks }) root.now
         []) }
-    ensures unread { (h : Half) → IsErrOf result.1 (CheckRefused.ReadFault h)
+    ensures unread { (h : Half) → IsErrOf result.1 (WalkRefused.ReadFault h)
         → IsUnreadSince B.Blocks reading.began result.0 h }
 {
     match Places::make(alloc, root.blocks) {
-        Err(_) => (reading.into_store(), Err(CheckRefused::Memory)),
+        Err(_) => (reading.into_store(), Err(WalkRefused::Memory)),
         Ok(places) => {
             let mut survey = Survey::over(reading, places);
             let found = walk(alloc, &mut survey, root);
@@ -221,12 +221,12 @@ fn walk_store<B: Blocks>(
 }
 
 /// Checks which files a store holds. It reads each place once, and each page that a later version copied once more, and writes nothing.
-pub fn check<B: Blocks>(alloc: Global, store: B) -> (B, Result<Checked, CheckRefused>)
+pub fn check<B: Blocks>(alloc: Global, store: B) -> (B, Result<Checked, WalkRefused>)
     ensures only { OnlyRead B.Blocks store result.0 }
     ensures fits { IfOk result.1 (λ checked. length checked.map ≤ B.size store) }
-    ensures answer { B.tells → IsMended (B.settled store) (B.content store) (B.size store)
+    ensures answer { B.tells → AreSettled (B.settled store) (B.content store) (B.size store)
         → Answers (is_past B.Blocks result.0) result.1 (laid (B.content store) (B.size store) []) }
-    ensures unread { (h : Half) → IsErrOf result.1 (CheckRefused.ReadFault h)
+    ensures unread { (h : Half) → IsErrOf result.1 (WalkRefused.ReadFault h)
         → IsUnreadSince B.Blocks store result.0 h }
 {
     let most = store.blocks();

@@ -8,13 +8,13 @@ ghost use Rattle.store_model.specs.Chains.{chain_at};
 ghost use Rattle.store_model.specs.Tables.{files_from};
 ghost use Rattle.store_check.specs.Since.{IsUnreadSince, is_past};
 ghost use Rattle.store_check.specs.Surveyed.{IsTold, blocks_in};
-ghost use Rattle.store_check.specs.declared.refused.CheckRefused.{CheckRefused};
+ghost use Rattle.store_check.specs.declared.refused.WalkRefused.{WalkRefused};
 ghost use Rattle.store_check.specs.Results.{Shows};
 ghost use Rattle.store_check.specs.Rows.{row_of};
 ghost use Rattle.store_check.specs.Files.{AllLie, LikeFiles, chain_of};
 
-use crate::chain::{Chain, chain_at};
-use crate::refused::CheckRefused;
+use crate::chain::{FoundFile, chain_at};
+use crate::refused::WalkRefused;
 use crate::rows::Row;
 use crate::survey::Survey;
 use pair_store::Blocks;
@@ -26,7 +26,7 @@ fn file_at<B: Blocks>(
     survey: &mut Survey<B>,
     object: u32,
     row: &Row,
-) -> Result<Option<Chain>, CheckRefused>
+) -> Result<Option<FoundFile>, WalkRefused>
     ensures began { survey.new.began ≡ survey.old.began }
     ensures count { survey.new.count ≡ survey.old.count }
     ensures walk { IsTold B.Blocks survey.old
@@ -36,7 +36,7 @@ fn file_at<B: Blocks>(
         (if_some row.now.entry.first
         (chain_at (blocks_in B.content survey.old) object row.now.block) survey.old.list)
         survey.new.list }
-    ensures unread { (h : Half) → IsErrOf result (CheckRefused.ReadFault h)
+    ensures unread { (h : Half) → IsErrOf result (WalkRefused.ReadFault h)
         → IsUnreadSince B.Blocks survey.new.began survey.new.store h }
 {
     let entry = &row.entry;
@@ -54,7 +54,7 @@ pub fn files_from<B: Blocks>(
     survey: &mut Survey<B>,
     alloc: Global,
     rows: &[Row],
-) -> Result<Vec<Option<Chain>>, CheckRefused>
+) -> Result<Vec<Option<FoundFile>>, WalkRefused>
     requires { length rows.now ≤ 4032 }
     ensures began { survey.new.began ≡ survey.old.began }
     ensures count { survey.new.count ≡ survey.old.count }
@@ -65,7 +65,7 @@ pub fn files_from<B: Blocks>(
         (files_from (blocks_in B.content survey.old) 1
         (map row_of rows.now) survey.old.list) survey.new.list }
     ensures size { IfOk result (λ chains. length chains.items ≡ length rows.now) }
-    ensures unread { (h : Half) → IsErrOf result (CheckRefused.ReadFault h)
+    ensures unread { (h : Half) → IsErrOf result (WalkRefused.ReadFault h)
         → IsUnreadSince B.Blocks survey.new.began survey.new.store h }
 {
     let mut chains = Vec::new(alloc);

@@ -16,9 +16,10 @@ mod survey;
 mod tops;
 mod version;
 
-pub use chain::Chain;
+pub use chain::FoundFile;
 pub use checking::{Checked, check};
 pub use counts::places_are_counted;
-pub use refused::CheckRefused;
+pub use reading::refused_read;
+pub use refused::WalkRefused;
 pub use rows::root_block;
 pub use version::FoundVersion;

@@ -8,11 +8,11 @@ ghost use Rattle.store_model.specs.Pages.{page_at, pages_below, slot_from};
 ghost use Rattle.store_check.specs.Before.{AreBefore, BeforeLies, before_at};
 ghost use Rattle.store_check.specs.Since.{IsUnreadSince, is_past};
 ghost use Rattle.store_check.specs.Surveyed.{IsTold, blocks_in};
-ghost use Rattle.store_check.specs.declared.refused.CheckRefused.{CheckRefused};
+ghost use Rattle.store_check.specs.declared.refused.WalkRefused.{WalkRefused};
 ghost use Rattle.store_check.specs.Results.{Gets, Shows, ShowsNone};
 
 use crate::before::{Before, all_before, befores_of, own_block};
-use crate::refused::CheckRefused;
+use crate::refused::WalkRefused;
 use crate::survey::{Survey, page_at};
 use afs_base::BlockNo;
 use page_codec::{Reference, SLOTS, Why, decode_page};
@@ -22,7 +22,7 @@ use pair_store::Blocks;
 fn page_befores<B: Blocks>(
     survey: &mut Survey<B>,
     n: BlockNo,
-) -> Result<[Before; SLOTS], CheckRefused>
+) -> Result<[Before; SLOTS], WalkRefused>
     ensures began { survey.new.began ≡ survey.old.began }
     ensures count { survey.new.count ≡ survey.old.count }
     ensures list { survey.new.list ≡ survey.old.list }
@@ -31,12 +31,12 @@ fn page_befores<B: Blocks>(
         → 1 ≤ length path
         → before_at nodes path ≡ Before.Page n
         → Gets (is_past B.Blocks survey.new.store) (AreBefore nodes path) result }
-    ensures unread { (h : Half) → IsErrOf result (CheckRefused.ReadFault h)
+    ensures unread { (h : Half) → IsErrOf result (WalkRefused.ReadFault h)
         → IsUnreadSince B.Blocks survey.new.began survey.new.store h }
 {
     // No contract says what files hold, so a page that is read again may name any number by now.
     if n.get() >= survey.count() {
-        return Err(CheckRefused::BadStore {
+        return Err(WalkRefused::BadStore {
             block: n,
             why: Why::Reference,
         });
@@ -44,7 +44,7 @@ fn page_befores<B: Blocks>(
     let block = survey.read(n)?;
     match decode_page(&block) {
         Ok(page) => Ok(befores_of(&page.refs)),
-        Err(bad) => Err(CheckRefused::BadStore {
+        Err(bad) => Err(WalkRefused::BadStore {
             block: n,
             why: bad.why,
         }),
@@ -55,7 +55,7 @@ fn page_befores<B: Blocks>(
 fn slot_befores<B: Blocks>(
     survey: &mut Survey<B>,
     before: &Before,
-) -> Result<[Before; SLOTS], CheckRefused>
+) -> Result<[Before; SLOTS], WalkRefused>
     ensures began { survey.new.began ≡ survey.old.began }
     ensures count { survey.new.count ≡ survey.old.count }
     ensures list { survey.new.list ≡ survey.old.list }
@@ -64,7 +64,7 @@ fn slot_befores<B: Blocks>(
         → 1 ≤ length path
         → before_at nodes path ≡ before.now
         → Gets (is_past B.Blocks survey.new.store) (AreBefore nodes path) result }
-    ensures unread { (h : Half) → IsErrOf result (CheckRefused.ReadFault h)
+    ensures unread { (h : Half) → IsErrOf result (WalkRefused.ReadFault h)
         → IsUnreadSince B.Blocks survey.new.began survey.new.store h }
 {
     match before {
@@ -82,7 +82,7 @@ fn slot_pages<B: Blocks>(
     reference: &Reference,
     before: &Before,
     depth: u8,
-) -> Result<(), CheckRefused>
+) -> Result<(), WalkRefused>
     requires { depth < 7 }
     ensures began { survey.new.began ≡ survey.old.began }
     ensures count { survey.new.count ≡ survey.old.count }
@@ -95,7 +95,7 @@ fn slot_pages<B: Blocks>(
         (pages_below (blocks_in B.content survey.old) nodes depth) nodes namer path reference.now
         reference.now.block survey.old.list)
         survey.new.list }
-    ensures unread { (h : Half) → IsErrOf result (CheckRefused.ReadFault h)
+    ensures unread { (h : Half) → IsErrOf result (WalkRefused.ReadFault h)
         → IsUnreadSince B.Blocks survey.new.began survey.new.store h }
 {
     match own_block(namer, reference, before)? {
@@ -116,7 +116,7 @@ pub fn pages_below<B: Blocks>(
     refs: &[Reference; SLOTS],
     befores: &[Before; SLOTS],
     depth: u8,
-) -> Result<(), CheckRefused>
+) -> Result<(), WalkRefused>
     requires { depth ≤ 7 }
     ensures began { survey.new.began ≡ survey.old.began }
     ensures count { survey.new.count ≡ survey.old.count }
@@ -127,7 +127,7 @@ pub fn pages_below<B: Blocks>(
         → ShowsNone (is_past B.Blocks survey.new.store) result
         (pages_below (blocks_in B.content survey.old) nodes depth namer path refs.now
         survey.old.list) survey.new.list }
-    ensures unread { (h : Half) → IsErrOf result (CheckRefused.ReadFault h)
+    ensures unread { (h : Half) → IsErrOf result (WalkRefused.ReadFault h)
         → IsUnreadSince B.Blocks survey.new.began survey.new.store h }
 {
     if depth == 0 {

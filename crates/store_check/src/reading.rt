@@ -7,7 +7,7 @@ ghost use Rattle.pair_store.specs.declared.fault.PairFault.{PairFault};
 ghost use Rattle.pair_store.specs.Answers.{IsReadFault};
 ghost use Rattle.store_check.specs.Results.{refused_read};
 
-use crate::refused::CheckRefused;
+use crate::refused::WalkRefused;
 use afs_base::BlockNo;
 use page_codec::Why;
 use pair_store::{Block, Blocks, PairFault};
@@ -31,7 +31,7 @@ impl<B: Blocks> Model for Reading<B> {
 }
 
 impl<B: Blocks> Reading<B> {
-    ghost use Rattle.store_check.specs.declared.refused.CheckRefused.{CheckRefused};
+    ghost use Rattle.store_check.specs.declared.refused.WalkRefused.{WalkRefused};
     ghost use Rattle.store_check.specs.Results.{Walks};
 
     /// Begins to read a store.
@@ -73,13 +73,13 @@ impl<B: Blocks> Reading<B> {
 
     /// Reads the content of a block.
     #[tactic(auto, unfolding(store_model::specs::Walk::content_at, store_model::specs::Walk::done, store_model::specs::Walk::refuse))]
-    pub fn read(&mut self, n: BlockNo) -> Result<Block, CheckRefused>
+    pub fn read(&mut self, n: BlockNo) -> Result<Block, WalkRefused>
         requires { n < B.size self.old.began }
         ensures began { self.new.began ≡ self.old.began }
         ensures walk { B.tells → B.settled self.old.began n → (places : List ℕ)
             → Walks (is_past B.Blocks self.new.store) (λ b. b) result
             (content_at n (B.content self.old.began n) places) places }
-        ensures unread { (h : Half) → IsErrOf result (CheckRefused.ReadFault h)
+        ensures unread { (h : Half) → IsErrOf result (WalkRefused.ReadFault h)
             → IsUnreadSince B.Blocks self.old.began self.new.store h }
     {
         let mut block = [0; 1024];
@@ -90,14 +90,14 @@ impl<B: Blocks> Reading<B> {
     }
 }
 
-/// Why a store is not opened where a block could not be read.
-fn refused_read(n: BlockNo, fault: PairFault) -> CheckRefused
+/// What a walk answers where block `n` could not be read: the fault of the half, or that the block is closed.
+pub fn refused_read(n: BlockNo, fault: PairFault) -> WalkRefused
     requires { IsReadFault n fault }
     ensures { result ≡ refused_read n fault }
 {
     match fault {
-        PairFault::ReadFault { half } => CheckRefused::ReadFault { half },
-        _ => CheckRefused::BadStore {
+        PairFault::ReadFault { half } => WalkRefused::ReadFault { half },
+        _ => WalkRefused::BadStore {
             block: n,
             why: Why::Closed,
         },

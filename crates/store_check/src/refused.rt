@@ -1,6 +1,6 @@
-// Why a store is not checked.
+// Why a walk over the blocks of a store gave no answer.
 ghost use Rattle.std.specs.Prelude.{◌≡◌};
-ghost use Rattle.store_check.specs.declared.refused.CheckRefused.TheVariants.{Memory};
+ghost use Rattle.store_check.specs.declared.refused.WalkRefused.TheVariants.{Memory};
 
 use afs_base::{BlockNo, Memory as NoMemory};
 use drives::Half;
@@ -8,9 +8,9 @@ use page_codec::Why;
 use std::alloc::{AllocError, AllocFailed};
 use thiserror::Error;
 
-/// Why the check of a store gave no answer, or that it is not lawful.
+/// Why a walk over the blocks of a store gave no answer, or that the store is not lawful.
 #[derive(Clone, Copy, Debug, PartialEq, Eq, Error)]
-pub enum CheckRefused {
+pub enum WalkRefused {
     /// The half failed in a read, and no open half was read in its place.
     #[error("half {half:?} failed in a read")]
     ReadFault { half: Half },
@@ -22,26 +22,26 @@ pub enum CheckRefused {
     Memory,
 }
 
-impl From<NoMemory> for CheckRefused {
+impl From<NoMemory> for WalkRefused {
     ghost from_gives = { λ _ e. e ≡ Memory };
 
-    fn from(_e: NoMemory) -> CheckRefused {
-        CheckRefused::Memory
+    fn from(_e: NoMemory) -> WalkRefused {
+        WalkRefused::Memory
     }
 }
 
-impl From<AllocError> for CheckRefused {
+impl From<AllocError> for WalkRefused {
     ghost from_gives = { λ _ e. e ≡ Memory };
 
-    fn from(_e: AllocError) -> CheckRefused {
-        CheckRefused::Memory
+    fn from(_e: AllocError) -> WalkRefused {
+        WalkRefused::Memory
     }
 }
 
-impl<T: Drop> From<AllocFailed<T>> for CheckRefused {
+impl<T: Drop> From<AllocFailed<T>> for WalkRefused {
     ghost from_gives = { λ _ e. e ≡ Memory };
 
-    fn from(_e: AllocFailed<T>) -> CheckRefused {
-        CheckRefused::Memory
+    fn from(_e: AllocFailed<T>) -> WalkRefused {
+        WalkRefused::Memory
     }
 }

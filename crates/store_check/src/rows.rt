@@ -5,11 +5,11 @@ ghost use Rattle.page_codec.specs.Blank.{no_entry};
 ghost use Rattle.store_model.specs.Tables.{part_rows, parts_from, rows_in, table_rows};
 ghost use Rattle.store_check.specs.Since.{IsUnreadSince, is_past};
 ghost use Rattle.store_check.specs.Surveyed.{IsTold, blocks_in};
-ghost use Rattle.store_check.specs.declared.refused.CheckRefused.{CheckRefused};
+ghost use Rattle.store_check.specs.declared.refused.WalkRefused.{WalkRefused};
 ghost use Rattle.store_check.specs.Results.{Walks};
 ghost use Rattle.store_check.specs.Rows.{row_of};
 
-use crate::refused::CheckRefused;
+use crate::refused::WalkRefused;
 use crate::survey::{Survey, place};
 use afs_base::{BlockNo, Memory, PARTS};
 use page_codec::{PART_ENTRIES, TableEntry, TableRoot, decode_part};
@@ -60,7 +60,7 @@ fn read_part<B: Blocks>(
     alloc: Global,
     j: u8,
     n: BlockNo,
-) -> Result<Vec<Row>, CheckRefused>
+) -> Result<Vec<Row>, WalkRefused>
     requires { j < PARTS }
     ensures began { survey.new.began ≡ survey.old.began }
     ensures count { survey.new.count ≡ survey.old.count }
@@ -68,13 +68,13 @@ fn read_part<B: Blocks>(
         → Walks (is_past B.Blocks survey.new.store) (λ rows. map row_of rows.items) result
         (part_rows (blocks_in B.content survey.old) j (Some n) survey.old.list) survey.new.list }
     ensures size { IfOk result (λ rows. length rows.items ≡ 63) }
-    ensures unread { (h : Half) → IsErrOf result (CheckRefused.ReadFault h)
+    ensures unread { (h : Half) → IsErrOf result (WalkRefused.ReadFault h)
         → IsUnreadSince B.Blocks survey.new.began survey.new.store h }
 {
     let block = place(survey, root_block(), n)?;
     match decode_part(&block, j) {
         Ok(entries) => Ok(rows_from(alloc, n, &entries)?),
-        Err(bad) => Err(CheckRefused::BadStore {
+        Err(bad) => Err(WalkRefused::BadStore {
             block: n,
             why: bad.why,
         }),
@@ -88,7 +88,7 @@ fn part_rows<B: Blocks>(
     alloc: Global,
     j: u8,
     part: &Option<BlockNo>,
-) -> Result<Vec<Row>, CheckRefused>
+) -> Result<Vec<Row>, WalkRefused>
     requires { j < PARTS }
     ensures began { survey.new.began ≡ survey.old.began }
     ensures count { survey.new.count ≡ survey.old.count }
@@ -96,7 +96,7 @@ fn part_rows<B: Blocks>(
         → Walks (is_past B.Blocks survey.new.store) (λ rows. map row_of rows.items) result
         (part_rows (blocks_in B.content survey.old) j part.now survey.old.list) survey.new.list }
     ensures size { IfOk result (λ rows. length rows.items ≡ 63) }
-    ensures unread { (h : Half) → IsErrOf result (CheckRefused.ReadFault h)
+    ensures unread { (h : Half) → IsErrOf result (WalkRefused.ReadFault h)
         → IsUnreadSince B.Blocks survey.new.began survey.new.store h }
 {
     match part {
@@ -110,7 +110,7 @@ fn all_parts<B: Blocks>(
     survey: &mut Survey<B>,
     alloc: Global,
     parts: &[Option<BlockNo>],
-) -> Result<Vec<Row>, CheckRefused>
+) -> Result<Vec<Row>, WalkRefused>
     requires { length parts.now ≤ 64 }
     ensures began { survey.new.began ≡ survey.old.began }
     ensures count { survey.new.count ≡ survey.old.count }
@@ -118,7 +118,7 @@ fn all_parts<B: Blocks>(
         → Walks (is_past B.Blocks survey.new.store) (λ rows. map row_of rows.items) result
         (parts_from (blocks_in B.content survey.old) 0 parts.now survey.old.list) survey.new.list }
     ensures size { IfOk result (λ rows. length rows.items ≡ 63 * length parts.now) }
-    ensures unread { (h : Half) → IsErrOf result (CheckRefused.ReadFault h)
+    ensures unread { (h : Half) → IsErrOf result (WalkRefused.ReadFault h)
         → IsUnreadSince B.Blocks survey.new.began survey.new.store h }
 {
     let mut rows = Vec::new(alloc);
@@ -135,7 +135,7 @@ pub fn table_rows<B: Blocks>(
     survey: &mut Survey<B>,
     alloc: Global,
     root: &TableRoot,
-) -> Result<Vec<Row>, CheckRefused>
+) -> Result<Vec<Row>, WalkRefused>
     ensures began { survey.new.began ≡ survey.old.began }
     ensures count { survey.new.count ≡ survey.old.count }
     ensures walk { IsTold B.Blocks survey.old
@@ -145,7 +145,7 @@ pub fn table_rows<B: Blocks>(
         → IfOk result (λ rows. map (λ row. row.entry) rows.items ≡ root.now.first) }
     ensures two { root.now.format ≢ 1 → IfOk result (λ rows. length rows.items ≡ 4032) }
     ensures most { IfOk result (λ rows. length rows.items ≤ 4032) }
-    ensures unread { (h : Half) → IsErrOf result (CheckRefused.ReadFault h)
+    ensures unread { (h : Half) → IsErrOf result (WalkRefused.ReadFault h)
         → IsUnreadSince B.Blocks survey.new.began survey.new.store h }
 {
     if root.format == 1 {

@@ -8,13 +8,13 @@ ghost use Rattle.store_model.specs.Walk.{place, add, bind, content_at};
 ghost use Rattle.store_model.specs.Pages.{page_at};
 ghost use Rattle.store_check.specs.Since.{IsUnreadSince, OnlyRead, is_past};
 ghost use Rattle.store_check.specs.Surveyed.{IsTold, blocks_in};
-ghost use Rattle.store_check.specs.declared.refused.CheckRefused.{CheckRefused};
+ghost use Rattle.store_check.specs.declared.refused.WalkRefused.{WalkRefused};
 ghost use Rattle.store_check.specs.Results.{Walks};
 ghost use Rattle.store_check.specs.Marks.{Marks};
 
 use crate::places::Places;
 use crate::reading::Reading;
-use crate::refused::CheckRefused;
+use crate::refused::WalkRefused;
 use afs_base::BlockNo;
 use block_map::BlockMap;
 use page_codec::{Page, Why, decode_page};
@@ -93,7 +93,7 @@ impl<B: Blocks> Survey<B> {
     }
 
     /// Reads a block of the store.
-    pub fn read(&mut self, n: BlockNo) -> Result<Block, CheckRefused>
+    pub fn read(&mut self, n: BlockNo) -> Result<Block, WalkRefused>
         requires { n < self.old.count }
         ensures began { self.new.began ≡ self.old.began }
         ensures count { self.new.count ≡ self.old.count }
@@ -101,7 +101,7 @@ impl<B: Blocks> Survey<B> {
         ensures walk { IsTold B.Blocks self.old → (places : List ℕ)
             → Walks (is_past B.Blocks self.new.store) (λ b. b) result
             (content_at n (B.content self.old.began n) places) places }
-        ensures unread { (h : Half) → IsErrOf result (CheckRefused.ReadFault h)
+        ensures unread { (h : Half) → IsErrOf result (WalkRefused.ReadFault h)
             → IsUnreadSince B.Blocks self.new.began self.new.store h }
     {
         self.reading.read(n)
@@ -109,7 +109,7 @@ impl<B: Blocks> Survey<B> {
 
     /// Takes a block as a place, and reads it.
     #[tactic(auto, unfolding(store_model::specs::Walk::add, store_model::specs::Walk::bind))]
-    fn take(&mut self, n: BlockNo) -> Result<Block, CheckRefused>
+    fn take(&mut self, n: BlockNo) -> Result<Block, WalkRefused>
         requires low { 0 < n }
         requires high { n < self.old.count }
         requires new { list_any (nat_eq n) self.old.list ≡ false }
@@ -119,7 +119,7 @@ impl<B: Blocks> Survey<B> {
             → Walks (is_past B.Blocks self.new.store) (λ b. b) result
             (bind (add n) (λ _. content_at n
             (B.content self.old.began n)) self.old.list) self.new.list }
-        ensures unread { (h : Half) → IsErrOf result (CheckRefused.ReadFault h)
+        ensures unread { (h : Half) → IsErrOf result (WalkRefused.ReadFault h)
             → IsUnreadSince B.Blocks self.new.began self.new.store h }
     {
         self.places.add(n);
@@ -133,23 +133,23 @@ pub fn place<B: Blocks>(
     survey: &mut Survey<B>,
     namer: BlockNo,
     n: BlockNo,
-) -> Result<Block, CheckRefused>
+) -> Result<Block, WalkRefused>
     ensures began { survey.new.began ≡ survey.old.began }
     ensures count { survey.new.count ≡ survey.old.count }
     ensures walk { IsTold B.Blocks survey.old
         → Walks (is_past B.Blocks survey.new.store) (λ b. b) result
         (place (blocks_in B.content survey.old) namer n survey.old.list) survey.new.list }
-    ensures unread { (h : Half) → IsErrOf result (CheckRefused.ReadFault h)
+    ensures unread { (h : Half) → IsErrOf result (WalkRefused.ReadFault h)
         → IsUnreadSince B.Blocks survey.new.began survey.new.store h }
 {
     if n.get() < 1 || n.get() >= survey.count() {
-        return Err(CheckRefused::BadStore {
+        return Err(WalkRefused::BadStore {
             block: namer,
             why: Why::Reference,
         });
     }
     if survey.has(n) {
-        return Err(CheckRefused::BadStore {
+        return Err(WalkRefused::BadStore {
             block: n,
             why: Why::Seen,
         });
@@ -164,13 +164,13 @@ pub fn page_at<B: Blocks>(
     namer: BlockNo,
     n: BlockNo,
     level: u8,
-) -> Result<Page, CheckRefused>
+) -> Result<Page, WalkRefused>
     ensures began { survey.new.began ≡ survey.old.began }
     ensures count { survey.new.count ≡ survey.old.count }
     ensures walk { IsTold B.Blocks survey.old
         → Walks (is_past B.Blocks survey.new.store) (λ page. page) result
         (page_at (blocks_in B.content survey.old) namer n level survey.old.list) survey.new.list }
-    ensures unread { (h : Half) → IsErrOf result (CheckRefused.ReadFault h)
+    ensures unread { (h : Half) → IsErrOf result (WalkRefused.ReadFault h)
         → IsUnreadSince B.Blocks survey.new.began survey.new.store h }
 {
     let block = place(survey, namer, n)?;
@@ -179,13 +179,13 @@ pub fn page_at<B: Blocks>(
             if page.level == level {
                 Ok(page)
             } else {
-                Err(CheckRefused::BadStore {
+                Err(WalkRefused::BadStore {
                     block: n,
                     why: Why::Level,
                 })
             }
         }
-        Err(bad) => Err(CheckRefused::BadStore {
+        Err(bad) => Err(WalkRefused::BadStore {
             block: n,
             why: bad.why,
         }),

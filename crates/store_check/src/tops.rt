@@ -12,15 +12,15 @@ ghost use Rattle.store_model.specs.Members.{Top as ModelTop, Linked as ModelLink
 ghost use Rattle.store_check.specs.Before.{PagesLie};
 ghost use Rattle.store_check.specs.Since.{IsUnreadSince, is_past};
 ghost use Rattle.store_check.specs.Surveyed.{IsTold, blocks_in};
-ghost use Rattle.store_check.specs.declared.refused.CheckRefused.{CheckRefused};
+ghost use Rattle.store_check.specs.declared.refused.WalkRefused.{WalkRefused};
 ghost use Rattle.store_check.specs.Results.{Shows};
 ghost use Rattle.store_check.specs.Versions.{prior_of, shown_of, tried_at};
 ghost use Rattle.store_check.specs.Files.{LikeFiles};
 ghost use Rattle.store_check.specs.Counts.{kept_in};
 ghost use Rattle.store_check.specs.Tops.{AreNamed, LikeLinked, at_object, may_link, prior_in, shown_top, top_in, tops_in, unset_of, with_last};
 
-use crate::chain::Chain;
-use crate::refused::CheckRefused;
+use crate::chain::FoundFile;
+use crate::refused::WalkRefused;
 use crate::survey::Survey;
 use crate::version::{FoundVersion, Prior, version_at};
 use afs_base::{BlockNo, Memory};
@@ -39,7 +39,7 @@ pub struct Top {
 /// What is kept of the files of a store, and which objects were named as members or as tops.
 #[derive(Drop)]
 pub struct Linked {
-    pub chains: Vec<Option<Chain>>,
+    pub chains: Vec<Option<FoundFile>>,
     pub named: Vec<bool>,
 }
 
@@ -74,7 +74,7 @@ fn top_of(object: u32, version: &FoundVersion) -> Option<Top>
 }
 
 /// Adds the object to the tops, where it is one.
-fn push_top(tops: &mut Vec<Top>, object: u32, chain: &Option<Chain>) -> Result<(), Memory>
+fn push_top(tops: &mut Vec<Top>, object: u32, chain: &Option<FoundFile>) -> Result<(), Memory>
     ensures { OnOk result (tops.new.items ≡ tops.old.items ++ top_in object chain.now) }
 {
     match chain {
@@ -87,7 +87,7 @@ fn push_top(tops: &mut Vec<Top>, object: u32, chain: &Option<Chain>) -> Result<(
 }
 
 /// The tops, ascending.
-pub fn tops_of(alloc: Global, chains: &[Option<Chain>]) -> Result<Vec<Top>, Memory>
+pub fn tops_of(alloc: Global, chains: &[Option<FoundFile>]) -> Result<Vec<Top>, Memory>
     requires { length chains.now ≤ 4032 }
     ensures { IfOk result (λ tops. tops.items ≡ tops_in 1 chains.now) }
 {
@@ -112,7 +112,7 @@ fn tried_member<B: Blocks>(
     namer: BlockNo,
     n: BlockNo,
     before: &Option<Prior>,
-) -> Result<FoundVersion, CheckRefused>
+) -> Result<FoundVersion, WalkRefused>
     ensures began { survey.new.began ≡ survey.old.began }
     ensures count { survey.new.count ≡ survey.old.count }
     ensures walk { IsTold B.Blocks survey.old → (laid : LaidVersion)
@@ -124,12 +124,12 @@ fn tried_member<B: Blocks>(
         result
         (tried_at (blocks_in B.content survey.old) object namer n laid survey.old.list)
         survey.new.list }
-    ensures unread { (h : Half) → IsErrOf result (CheckRefused.ReadFault h)
+    ensures unread { (h : Half) → IsErrOf result (WalkRefused.ReadFault h)
         → IsUnreadSince B.Blocks survey.new.began survey.new.store h }
 {
     let version = version_at(survey, object, namer, n, before)?;
     if !is_last(&version) {
-        return Err(CheckRefused::BadStore {
+        return Err(WalkRefused::BadStore {
             block: n,
             why: Why::Member,
         });
@@ -148,11 +148,11 @@ fn may_link(top: u32, object: u32, last: &FoundVersion, mark: bool) -> bool
 fn prior_from(
     top: &Top,
     object: u32,
-    chain: &Option<Chain>,
+    chain: &Option<FoundFile>,
     mark: bool,
-) -> Result<Prior, CheckRefused>
+) -> Result<Prior, WalkRefused>
     ensures value { result ≡ prior_in top.now object (Some chain.now) (Some mark) }
-    ensures only { (h : Half) → IsErrOf result (CheckRefused.ReadFault h) → ⊥ }
+    ensures only { (h : Half) → IsErrOf result (WalkRefused.ReadFault h) → ⊥ }
 {
     match chain {
         Some(chain) => {
@@ -166,7 +166,7 @@ fn prior_from(
         }
         None => {}
     }
-    Err(CheckRefused::BadStore {
+    Err(WalkRefused::BadStore {
         block: top.block,
         why: Why::Member,
     })
@@ -176,18 +176,18 @@ fn prior_from(
 fn prior_at(
     top: &Top,
     object: u32,
-    chains: &[Option<Chain>],
+    chains: &[Option<FoundFile>],
     named: &[bool],
-) -> Result<Prior, CheckRefused>
+) -> Result<Prior, WalkRefused>
     requires { length named.now ≡ length chains.now }
     ensures value { result ≡ prior_in top.now object (at_object object chains.now)
         (at_object object named.now) }
     ensures range { IfOk result (λ _. (1 ≤ object) × (object ≤ length chains.now)) }
-    ensures only { (h : Half) → IsErrOf result (CheckRefused.ReadFault h) → ⊥ }
+    ensures only { (h : Half) → IsErrOf result (WalkRefused.ReadFault h) → ⊥ }
 {
     let at = object as usize;
     if at == 0 || at > chains.len() {
-        return Err(CheckRefused::BadStore {
+        return Err(WalkRefused::BadStore {
             block: top.block,
             why: Why::Member,
         });
@@ -206,10 +206,10 @@ fn unset_of(version: &FoundVersion) -> Option<BlockNo>
 }
 
 /// What is kept of a file with one more version, which holds so many blocks.
-fn with_last(chain: &Chain, last: FoundVersion, pages: u32) -> Chain
+fn with_last(chain: &FoundFile, last: FoundVersion, pages: u32) -> FoundFile
     ensures { chain.now.kept + pages < 2 ^ 32 → result ≡ with_last last pages chain.now }
 {
-    Chain {
+    FoundFile {
         unset: unset_of(&chain.last),
         last,
         first: chain.first,
@@ -218,9 +218,9 @@ fn with_last(chain: &Chain, last: FoundVersion, pages: u32) -> Chain
 }
 
 /// Puts a version, which holds so many blocks, behind the last one of the file at place `i`, if it is live.
-fn set_last(chains: &mut Vec<Option<Chain>>, i: usize, last: FoundVersion, pages: u32)
+fn set_last(chains: &mut Vec<Option<FoundFile>>, i: usize, last: FoundVersion, pages: u32)
     requires { i < length chains.old.items }
-    ensures set { (chain : Chain) → slice_get chains.old.items i ≡ Some (Some chain)
+    ensures set { (chain : FoundFile) → slice_get chains.old.items i ≡ Some (Some chain)
         → chain.kept + pages < 2 ^ 32
         → chains.new.items ≡ set chains.old.items i (Some (with_last last pages chain)) }
     ensures size { length chains.new.items ≡ length chains.old.items }
@@ -252,7 +252,7 @@ fn link_version<B: Blocks>(
     n: BlockNo,
     prior: &Prior,
     linked: &mut Linked,
-) -> Result<(), CheckRefused>
+) -> Result<(), WalkRefused>
     requires low { 1 ≤ object }
     requires high { object ≤ length linked.old.chains.items }
     ensures began { survey.new.began ≡ survey.old.began }
@@ -270,7 +270,7 @@ fn link_version<B: Blocks>(
         (record { object = object; block = n }) laid files survey.old.list) survey.new.list }
     ensures named { linked.new.named.items ≡ linked.old.named.items }
     ensures size { length linked.new.chains.items ≡ length linked.old.chains.items }
-    ensures unread { (h : Half) → IsErrOf result (CheckRefused.ReadFault h)
+    ensures unread { (h : Half) → IsErrOf result (WalkRefused.ReadFault h)
         → IsUnreadSince B.Blocks survey.new.began survey.new.store h }
 {
     if prior.block.get() == n.get() {
@@ -294,7 +294,7 @@ fn link_member<B: Blocks>(
     object: u32,
     n: BlockNo,
     linked: &mut Linked,
-) -> Result<(), CheckRefused>
+) -> Result<(), WalkRefused>
     requires { length linked.old.named.items ≡ length linked.old.chains.items }
     ensures began { survey.new.began ≡ survey.old.began }
     ensures count { survey.new.count ≡ survey.old.count }
@@ -309,7 +309,7 @@ fn link_member<B: Blocks>(
         (record { object = object; block = n }) from
         (last_in object from.files) survey.old.list) survey.new.list }
     ensures size { OnOk result (length linked.new.named.items ≡ length linked.new.chains.items) }
-    ensures unread { (h : Half) → IsErrOf result (CheckRefused.ReadFault h)
+    ensures unread { (h : Half) → IsErrOf result (WalkRefused.ReadFault h)
         → IsUnreadSince B.Blocks survey.new.began survey.new.store h }
 {
     let prior = prior_at(
@@ -328,7 +328,7 @@ fn link_members<B: Blocks>(
     survey: &mut Survey<B>,
     top: &Top,
     linked: &mut Linked,
-) -> Result<(), CheckRefused>
+) -> Result<(), WalkRefused>
     requires { length linked.old.named.items ≡ length linked.old.chains.items }
     ensures began { survey.new.began ≡ survey.old.began }
     ensures count { survey.new.count ≡ survey.old.count }
@@ -342,7 +342,7 @@ fn link_members<B: Blocks>(
         (members_linked (blocks_in B.content survey.old) model top.now.members from survey.old.list)
         survey.new.list }
     ensures size { OnOk result (length linked.new.named.items ≡ length linked.new.chains.items) }
-    ensures unread { (h : Half) → IsErrOf result (CheckRefused.ReadFault h)
+    ensures unread { (h : Half) → IsErrOf result (WalkRefused.ReadFault h)
         → IsUnreadSince B.Blocks survey.new.began survey.new.store h }
 {
     'members: for k in 0..top.members.len() {
@@ -358,7 +358,7 @@ pub fn link_tops<B: Blocks>(
     survey: &mut Survey<B>,
     tops: &[Top],
     linked: &mut Linked,
-) -> Result<(), CheckRefused>
+) -> Result<(), WalkRefused>
     requires { length linked.old.named.items ≡ length linked.old.chains.items }
     ensures began { survey.new.began ≡ survey.old.began }
     ensures count { survey.new.count ≡ survey.old.count }
@@ -371,7 +371,7 @@ pub fn link_tops<B: Blocks>(
         (pages_of (B.content survey.old.began)) survey.old.count survey.new.list linked.new found)
         result
         (tops_linked (blocks_in B.content survey.old) models from survey.old.list) survey.new.list }
-    ensures unread { (h : Half) → IsErrOf result (CheckRefused.ReadFault h)
+    ensures unread { (h : Half) → IsErrOf result (WalkRefused.ReadFault h)
         → IsUnreadSince B.Blocks survey.new.began survey.new.store h }
 {
     'tops: for k in 0..tops.len() {

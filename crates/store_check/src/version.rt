@@ -10,13 +10,13 @@ ghost use Rattle.store_model.specs.Pages.{pages_below};
 ghost use Rattle.store_check.specs.Before.{AreBefore, BeforeLies, PagesLie, page_before};
 ghost use Rattle.store_check.specs.Since.{IsUnreadSince, is_past};
 ghost use Rattle.store_check.specs.Surveyed.{IsTold, blocks_in};
-ghost use Rattle.store_check.specs.declared.refused.CheckRefused.{CheckRefused};
+ghost use Rattle.store_check.specs.declared.refused.WalkRefused.{WalkRefused};
 ghost use Rattle.store_check.specs.Results.{Gets, Shows, ShowsNone, Walks};
 ghost use Rattle.store_check.specs.Versions.{OneLies, checked, follows_prior, prior_of, root_at, shown_of};
 
 use crate::before::{Before, all_before, befores_of};
 use crate::pages::pages_below;
-use crate::refused::CheckRefused;
+use crate::refused::WalkRefused;
 use crate::survey::{Survey, place};
 use afs_base::BlockNo;
 use page_codec::{Members, SLOTS, VersionPage, Why, decode_version};
@@ -58,29 +58,29 @@ fn is_next(serial: u64, prior: u64) -> bool
 
 /// The first cause for which the version page in block `n` does not follow a version.
 #[tactic(auto, unfolding(crate::specs::Versions::follows_prior, store_model::specs::Walk::bind, store_model::specs::Walk::check, store_model::specs::Walk::refuse, store_model::specs::Walk::done))]
-fn follows(n: BlockNo, version: &VersionPage, before: &Option<Prior>) -> Result<(), CheckRefused>
+fn follows(n: BlockNo, version: &VersionPage, before: &Option<Prior>) -> Result<(), WalkRefused>
     ensures walk { (places : List ℕ)
         → Walks (λ _. true) (λ _. true) result
         (follows_prior n version.now before.now places) places }
-    ensures only { (h : Half) → IsErrOf result (CheckRefused.ReadFault h) → ⊥ }
+    ensures only { (h : Half) → IsErrOf result (WalkRefused.ReadFault h) → ⊥ }
 {
     match before {
         None => Ok(()),
         Some(prior) => {
             if !is_next(version.serial, prior.serial) {
-                return Err(CheckRefused::BadStore {
+                return Err(WalkRefused::BadStore {
                     block: n,
                     why: Why::Serial,
                 });
             }
             if !is_block(prior.block, version.base) {
-                return Err(CheckRefused::BadStore {
+                return Err(WalkRefused::BadStore {
                     block: n,
                     why: Why::Base,
                 });
             }
             if !version.root.copied() {
-                return Err(CheckRefused::BadStore {
+                return Err(WalkRefused::BadStore {
                     block: n,
                     why: Why::Code,
                 });
@@ -104,20 +104,20 @@ fn checked(
     version: VersionPage,
     object: u32,
     before: &Option<Prior>,
-) -> Result<VersionPage, CheckRefused>
+) -> Result<VersionPage, WalkRefused>
     ensures walk { (places : List ℕ)
         → Walks (λ _. true) (λ v. v) result (checked object n before.now version places) places }
-    ensures only { (h : Half) → IsErrOf result (CheckRefused.ReadFault h) → ⊥ }
+    ensures only { (h : Half) → IsErrOf result (WalkRefused.ReadFault h) → ⊥ }
 {
     if version.object != object {
-        return Err(CheckRefused::BadStore {
+        return Err(WalkRefused::BadStore {
             block: n,
             why: Why::Object,
         });
     }
     follows(n, &version, before)?;
     if !is_settled(&version) {
-        return Err(CheckRefused::BadStore {
+        return Err(WalkRefused::BadStore {
             block: n,
             why: Why::Member,
         });
@@ -133,20 +133,20 @@ fn root_at<B: Blocks>(
     namer: BlockNo,
     n: BlockNo,
     before: &Option<Prior>,
-) -> Result<VersionPage, CheckRefused>
+) -> Result<VersionPage, WalkRefused>
     ensures began { survey.new.began ≡ survey.old.began }
     ensures count { survey.new.count ≡ survey.old.count }
     ensures walk { IsTold B.Blocks survey.old
         → Walks (is_past B.Blocks survey.new.store) (λ v. v) result
         (root_at (blocks_in B.content survey.old) object namer n before.now survey.old.list)
         survey.new.list }
-    ensures unread { (h : Half) → IsErrOf result (CheckRefused.ReadFault h)
+    ensures unread { (h : Half) → IsErrOf result (WalkRefused.ReadFault h)
         → IsUnreadSince B.Blocks survey.new.began survey.new.store h }
 {
     let block = place(survey, namer, n)?;
     match decode_version(&block) {
         Ok(version) => checked(n, version, object, before),
-        Err(bad) => Err(CheckRefused::BadStore {
+        Err(bad) => Err(WalkRefused::BadStore {
             block: n,
             why: bad.why,
         }),
@@ -166,7 +166,7 @@ fn slots_of(version: &VersionPage) -> [Before; SLOTS]
 fn version_befores<B: Blocks>(
     survey: &mut Survey<B>,
     n: BlockNo,
-) -> Result<[Before; SLOTS], CheckRefused>
+) -> Result<[Before; SLOTS], WalkRefused>
     ensures began { survey.new.began ≡ survey.old.began }
     ensures count { survey.new.count ≡ survey.old.count }
     ensures list { survey.new.list ≡ survey.old.list }
@@ -174,12 +174,12 @@ fn version_befores<B: Blocks>(
         → PagesLie (pages_of (B.content survey.old.began)) survey.old.count laid.block laid.nodes
         → n ≡ laid.block
         → Gets (is_past B.Blocks survey.new.store) (AreBefore (Some laid.nodes) []) result }
-    ensures unread { (h : Half) → IsErrOf result (CheckRefused.ReadFault h)
+    ensures unread { (h : Half) → IsErrOf result (WalkRefused.ReadFault h)
         → IsUnreadSince B.Blocks survey.new.began survey.new.store h }
 {
     // No contract says what files hold, so a block that is read again may name any number by now.
     if n.get() >= survey.count() {
-        return Err(CheckRefused::BadStore {
+        return Err(WalkRefused::BadStore {
             block: n,
             why: Why::Reference,
         });
@@ -187,7 +187,7 @@ fn version_befores<B: Blocks>(
     let block = survey.read(n)?;
     match decode_version(&block) {
         Ok(version) => Ok(slots_of(&version)),
-        Err(bad) => Err(CheckRefused::BadStore {
+        Err(bad) => Err(WalkRefused::BadStore {
             block: n,
             why: bad.why,
         }),
@@ -198,7 +198,7 @@ fn version_befores<B: Blocks>(
 fn root_befores<B: Blocks>(
     survey: &mut Survey<B>,
     before: &Option<Prior>,
-) -> Result<[Before; SLOTS], CheckRefused>
+) -> Result<[Before; SLOTS], WalkRefused>
     ensures began { survey.new.began ≡ survey.old.began }
     ensures count { survey.new.count ≡ survey.old.count }
     ensures list { survey.new.list ≡ survey.old.list }
@@ -207,7 +207,7 @@ fn root_befores<B: Blocks>(
         → before.now ≡ option_map prior_of laid
         → Gets (is_past B.Blocks survey.new.store)
         (AreBefore (option_map (λ v. v.nodes) laid) []) result }
-    ensures unread { (h : Half) → IsErrOf result (CheckRefused.ReadFault h)
+    ensures unread { (h : Half) → IsErrOf result (WalkRefused.ReadFault h)
         → IsUnreadSince B.Blocks survey.new.began survey.new.store h }
 {
     match before {
@@ -222,7 +222,7 @@ fn root_pages<B: Blocks>(
     n: BlockNo,
     version: &VersionPage,
     befores: &[Before; SLOTS],
-) -> Result<(), CheckRefused>
+) -> Result<(), WalkRefused>
     ensures began { survey.new.began ≡ survey.old.began }
     ensures count { survey.new.count ≡ survey.old.count }
     ensures walk { IsTold B.Blocks survey.old → (nodes : Option (List Node))
@@ -231,7 +231,7 @@ fn root_pages<B: Blocks>(
         → ShowsNone (is_past B.Blocks survey.new.store) result
         (pages_below (blocks_in B.content survey.old) nodes 7 n [] version.now.page.refs
         survey.old.list) survey.new.list }
-    ensures unread { (h : Half) → IsErrOf result (CheckRefused.ReadFault h)
+    ensures unread { (h : Half) → IsErrOf result (WalkRefused.ReadFault h)
         → IsUnreadSince B.Blocks survey.new.began survey.new.store h }
 {
     let page = &version.page;
@@ -263,7 +263,7 @@ pub fn version_at<B: Blocks>(
     namer: BlockNo,
     n: BlockNo,
     before: &Option<Prior>,
-) -> Result<FoundVersion, CheckRefused>
+) -> Result<FoundVersion, WalkRefused>
     ensures began { survey.new.began ≡ survey.old.began }
     ensures count { survey.new.count ≡ survey.old.count }
     ensures walk { IsTold B.Blocks survey.old → (laid : Option LaidVersion)
@@ -274,7 +274,7 @@ pub fn version_at<B: Blocks>(
         × OneLies (pages_of (B.content survey.old.began)) survey.old.count (Some found)) result
         (version_at (blocks_in B.content survey.old) object namer n laid survey.old.list)
         survey.new.list }
-    ensures unread { (h : Half) → IsErrOf result (CheckRefused.ReadFault h)
+    ensures unread { (h : Half) → IsErrOf result (WalkRefused.ReadFault h)
         → IsUnreadSince B.Blocks survey.new.began survey.new.store h }
 {
     let version = root_at(survey, object, namer, n, before)?;

@@ -3,7 +3,7 @@ use Rattle.std.proofs.lemmas.Result.{err_from_is_err_and}
 use Rattle.store_model.specs.Laid.{LaidVersion}
 use Rattle.store_model.specs.Laws.{pages_of}
 use Rattle.store_model.specs.Chains.{chain_at, chain_from, version_at}
-use Rattle.store_check.specs.declared.chain.Chain.{Chain}
+use Rattle.store_check.specs.declared.chain.FoundFile.{FoundFile}
 use Rattle.store_check.specs.Before.{PagesLie}
 use Rattle.store_check.specs.Surveyed.{blocks_in}
 use Rattle.store_check.specs.Files.{AllLie, LikeVersions, chain_of, kept_by}
@@ -19,7 +19,7 @@ returns-in_err-first-clause-walk g c = λ told.
     let s = c.args.survey.now in
     let stop = stopped_at g.B.Blocks c.version_at.new.survey.store c.in_err-first.field-0.0 in
     let p = err_from_is_err_and c.from_residual.result c.from_residual.ensures.1 in
-    shows_exit (λ (chain : Chain) (versions : List LaidVersion). (Some chain ≡ chain_of versions) × AllLie (pages_of (b.content s.began)) s.count versions) c.from_residual.result stop
+    shows_exit (λ (chain : FoundFile) (versions : List LaidVersion). (Some chain ≡ chain_of versions) × AllLie (pages_of (b.content s.began)) s.count versions) c.from_residual.result stop
     (chain_at (blocks_in b.content s) c.args.object c.args.namer c.args.n s.list) c.version_at.new.survey.list (p.1 ∙ ap Err p.2)
     (stops_on stop (version_at (blocks_in b.content s) c.args.object c.args.namer c.args.n None s.list) _ (c.in_err-first.ensures.walk told None tt refl)
     (λ cause is. first_stops (blocks_in b.content s) c.args.object c.args.namer c.args.n s.list cause is))
@@ -37,7 +37,7 @@ returns-in_err-last-clause-walk g c = λ told.
     (on b s s1 first.began first.count (λ d m. PagesLie (pages_of (b.content d)) m found.0.block found.0.nodes) found.1.1) found.1.0 in
     let here = back b s s1 first.began first.count
     (λ d m. Stops {X = List LaidVersion} stop (chain_from (record { content = b.content d; count = m }) c.args.object m found.0 s1.list)) stopped in
-    shows_exit (λ (chain : Chain) (versions : List LaidVersion). (Some chain ≡ chain_of versions) × AllLie (pages_of (b.content s.began)) s.count versions) c.from_residual-in_err-last.result stop
+    shows_exit (λ (chain : FoundFile) (versions : List LaidVersion). (Some chain ≡ chain_of versions) × AllLie (pages_of (b.content s.began)) s.count versions) c.from_residual-in_err-last.result stop
     (chain_at (blocks_in b.content s) c.args.object c.args.namer c.args.n s.list) c.last_from.new.survey.list (p.1 ∙ ap Err p.2)
     (stops_on stop (chain_from (blocks_in b.content s) c.args.object s.count found.0 s1.list) _ here
     (λ cause is. chain_is (blocks_in b.content s) c.args.object c.args.namer c.args.n s.list found.0 s1.list found.2 ∙ is))
@@ -59,7 +59,7 @@ returns-clause-walk g c = λ told.
     let kept : c.saturating_sub.result ≡ kept_by S1.0 = Prim.omega (arith, c.saturating_sub.ensures, c.found.ensures.value, c.found-found.ensures.value, more) in (
       S1.0,
       (
-        ap (λ (k : ℕ). Some (let chain : Chain = record { last = c.in_ok-last.last; first = k; unset = None; kept = c.saturating_sub.result } in chain)) (ap (λ v. v.serial) found.1.0)
+        ap (λ (k : ℕ). Some (let chain : FoundFile = record { last = c.in_ok-last.last; first = k; unset = None; kept = c.saturating_sub.result } in chain)) (ap (λ v. v.serial) found.1.0)
             ∙ chain_kept (pages_of (b.content s.began)) s.count found.0.serial c.saturating_sub.result c.in_ok-last.last S1.0 like kept,
         like.lie,
       ),

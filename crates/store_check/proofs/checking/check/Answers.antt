@@ -2,8 +2,8 @@ use Rattle.std.proofs.Common.{◌≡◌, ℕ, [], Ok, Err, Result, ◌<◌, sym,
 use Rattle.page_codec.specs.Values.{RootValue}
 use Rattle.store_model.specs.Walk.{and_then}
 use Rattle.store_check.specs.declared.checking.Checked.{Checked}
-use Rattle.store_check.specs.declared.refused.CheckRefused.{CheckRefused}
-use Rattle.store_check.specs.declared.refused.CheckRefused.TheVariants.{ReadFault}
+use Rattle.store_check.specs.declared.refused.WalkRefused.{WalkRefused}
+use Rattle.store_check.specs.declared.refused.WalkRefused.TheVariants.{ReadFault}
 use Rattle.store_model.specs.Found.{laid}
 use Rattle.store_check.specs.Since.{IsUnreadSince, is_past}
 use Rattle.store_check.specs.Checked.{Answers, root_from, walk_from}
@@ -27,7 +27,7 @@ returns-in-Err-clause-answer g c = λ told mended.
     (stops_on stop (root_from content size []) (laid content size []) at_size
     (λ cause is. laid_is content size [] ∙ ap (λ r. and_then r (λ (root : RootValue). walk_from (record { content = content; count = root.blocks }) root)) is))
 
-error_is : (e f : CheckRefused) → (let r : Result Checked CheckRefused = Err e in r) ≡ Err f → e ≡ f
+error_is : (e f : WalkRefused) → (let r : Result Checked WalkRefused = Err e in r) ≡ Err f → e ≡ f
 error_is e f is = cc
 
 pub returns-in-Err-clause-unread : goal.returns-in-Err-clause-unread

@@ -1,6 +1,6 @@
 use Rattle.std.proofs.Common.{◌≡◌, ◌<◌, ℕ, List, [], sym, ap, subst, ◌∙◌}
 use Rattle.page_codec.specs.Values.{RootValue}
-use Rattle.store_check.specs.declared.refused.CheckRefused.TheVariants.{ReadFault}
+use Rattle.store_check.specs.declared.refused.WalkRefused.TheVariants.{ReadFault}
 use Rattle.store_check.specs.Since.{IsUnreadSince, is_past}
 use Rattle.store_check.specs.Checked.{Answers, walk_from}
 use Rattle.store_check.proofs.WholeWalk.{ended_error}

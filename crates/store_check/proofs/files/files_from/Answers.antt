@@ -5,7 +5,7 @@ use Rattle.store_model.specs.Laid.{LaidFile, LaidVersion}
 use Rattle.store_model.specs.Laws.{pages_of}
 use Rattle.store_model.specs.Chains.{chain_at}
 use Rattle.store_model.specs.Tables.{files_from}
-use Rattle.store_check.specs.declared.chain.Chain.{Chain}
+use Rattle.store_check.specs.declared.chain.FoundFile.{FoundFile}
 use Rattle.store_check.specs.Rows.{row_of}
 use Rattle.store_check.specs.Files.{AllLie, LikeFiles}
 use Rattle.store_check.specs.Surveyed.{blocks_in}
@@ -21,7 +21,7 @@ files-init g c = record {
   size = ap length c.new-chains.ensures.items;
   far = λ told.
       let S = pages_of (g.B.Blocks.content c.args.survey.now.began) in
-      subst (λ (chains : List (Option Chain)). FilesSoFar S (blocks_in g.B.Blocks.content c.args.survey.now) c.args.rows.now c.args.survey.now.list 0 chains c.args.survey.now.list)
+      subst (λ (chains : List (Option FoundFile)). FilesSoFar S (blocks_in g.B.Blocks.content c.args.survey.now) c.args.rows.now c.args.survey.now.list 0 chains c.args.survey.now.list)
       (sym c.new-chains.ensures.items) (files_begin S (blocks_in g.B.Blocks.content c.args.survey.now) c.args.rows.now c.args.survey.now.list);
 }
 
@@ -65,7 +65,7 @@ returns-in_err-chain-clause-walk g c = λ told.
     let stopped = back b s l i.began i.count
     (λ d m. Stops {X = List LaidVersion} stop (if_some row.entry.first (chain_at (record { content = b.content d; count = m }) (k + 1) row.block) l.list))
     (c.in_err-chain.ensures.walk (told_on b s l i.began i.count told)) in
-    shows_exit (λ (chains : Vec (Option Chain) Global) (files : List LaidFile). LikeFiles S s.count chains.items files) c.from_residual.result stop
+    shows_exit (λ (chains : Vec (Option FoundFile) Global) (files : List LaidFile). LikeFiles S s.count chains.items files) c.from_residual.result stop
     (files_from (blocks_in b.content s) 1 (map row_of rows) s.list) c.file_at.new.survey.list (p.1 ∙ ap Err p.2)
     (stops_on stop (file_at (blocks_in b.content s) (k + 1) (row_of row) l.list) _ stopped
     (λ cause is. files_refused S (blocks_in b.content s) rows s.list k c.files.chains.items l.list row cause c.files-test.true c.index-rows-i.is (i.far told) is))

@@ -7,7 +7,7 @@ use Rattle.store_model.specs.Laid.{Node}
 use Rattle.store_model.specs.Laws.{pages_of}
 use Rattle.store_model.specs.Pages.{pages_below, slot_from, own_from, page_at}
 use Rattle.store_check.specs.declared.before.Before.{Before}
-use Rattle.store_check.specs.declared.refused.CheckRefused.{CheckRefused}
+use Rattle.store_check.specs.declared.refused.WalkRefused.{WalkRefused}
 use Rattle.store_check.specs.Before.{BeforeLies, before_at, own_block}
 use Rattle.store_check.specs.Since.{is_past}
 use Rattle.store_check.specs.Surveyed.{blocks_in}
@@ -95,13 +95,13 @@ pages_below-returns-clause-walk g t c =
 
 -- what the choice at a slot says, for what the version before has there
 choice :
-    (blocks : Blocks) (nodes : Option (List Node)) (d namer : ℕ) (path : List ℕ) (reference : ReferenceValue) (before : Before) (seen : List ℕ) (result : Result (Option ℕ) CheckRefused)
+    (blocks : Blocks) (nodes : Option (List Node)) (d namer : ℕ) (path : List ℕ) (reference : ReferenceValue) (before : Before) (seen : List ℕ) (result : Result (Option ℕ) WalkRefused)
     → before_at nodes path ≡ before → own_block namer reference before reference.block ≡ result
     → Chosen result (slot_from blocks (pages_below blocks nodes d) nodes namer path reference reference.block seen) (λ n. own_from blocks (pages_below blocks nodes d) namer path reference n seen) seen
 choice blocks nodes d namer path reference before seen result at is =
     let o = slot_from blocks (pages_below blocks nodes d) nodes namer path reference reference.block seen in
     let own = (λ (n : ℕ). own_from blocks (pages_below blocks nodes d) namer path reference n seen) in
-    subst (λ (r : Result (Option ℕ) CheckRefused). Chosen r o own seen) (ap (λ v. own_block namer reference v reference.block) at ∙ is)
+    subst (λ (r : Result (Option ℕ) WalkRefused). Chosen r o own seen) (ap (λ v. own_block namer reference v reference.block) at ∙ is)
     (chosen blocks (pages_below blocks nodes d) nodes namer path reference reference.block seen)
 
 pub slot_pages-returns-in_err-own_block-clause-walk :

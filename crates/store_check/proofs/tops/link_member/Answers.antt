@@ -5,9 +5,9 @@ use Rattle.store_model.specs.Walk.{Blocks, and_then, done}
 use Rattle.store_model.specs.Laws.{pages_of}
 use Rattle.page_places.specs.Places.{Store}
 use Rattle.store_model.specs.Members.{Top as ModelTop, Linked as ModelLinked, last_in, member_linked, version_linked}
-use Rattle.store_check.specs.declared.refused.CheckRefused.{CheckRefused}
+use Rattle.store_check.specs.declared.refused.WalkRefused.{WalkRefused}
 use Rattle.store_check.specs.declared.version.Prior.{Prior}
-use Rattle.store_check.specs.declared.chain.Chain.{Chain}
+use Rattle.store_check.specs.declared.chain.FoundFile.{FoundFile}
 use Rattle.store_check.specs.declared.tops.Top.{Top}
 use Rattle.store_check.specs.declared.tops.Linked.{Linked}
 use Rattle.store_check.specs.Surveyed.{blocks_in}
@@ -18,15 +18,15 @@ use Rattle.store_check.proofs.tops.link_member.Goals as goal
 
 -- what was found for a member, of what is kept
 told_of :
-    (blocks : Blocks) (store : Store) (count : ℕ) (kept : Linked) (top : Top) (model : ModelTop) (member : MemberValue) (from : ModelLinked) (places : List ℕ) (chains : List (Option Chain)) (named : List Bool) (result : Result Prior CheckRefused)
+    (blocks : Blocks) (store : Store) (count : ℕ) (kept : Linked) (top : Top) (model : ModelTop) (member : MemberValue) (from : ModelLinked) (places : List ℕ) (chains : List (Option FoundFile)) (named : List Bool) (result : Result Prior WalkRefused)
     → top ≡ shown_top model → LikeLinked store count places kept from → chains ≡ kept.chains.items → named ≡ kept.named.items
     → prior_in top member.object (at_object member.object chains) (at_object member.object named) ≡ result
     → PriorTold blocks model member from places (last_in member.object from.files) result
 told_of blocks store count kept top model member from places chains named result is like chains_are named_are gave =
-    subst (λ (r : Result Prior CheckRefused). PriorTold blocks model member from places (last_in member.object from.files) r)
+    subst (λ (r : Result Prior WalkRefused). PriorTold blocks model member from places (last_in member.object from.files) r)
     (
     ap (λ (t : Top). prior_in t member.object (at_object member.object kept.chains.items) (at_object member.object kept.named.items)) (sym is)
-    ∙ ap (λ (cs : List (Option Chain)). prior_in top member.object (at_object member.object cs) (at_object member.object kept.named.items)) (sym chains_are)
+    ∙ ap (λ (cs : List (Option FoundFile)). prior_in top member.object (at_object member.object cs) (at_object member.object kept.named.items)) (sym chains_are)
     ∙ ap (λ (ns : List Bool). prior_in top member.object (at_object member.object chains) (at_object member.object ns)) (sym named_are)
     ∙ gave
     )

@@ -5,7 +5,7 @@ use Rattle.store_model.specs.Laid.{LaidFile}
 use Rattle.store_model.specs.Laws.{pages_of}
 use Rattle.store_model.specs.Members.{version_linked, with_version_at}
 use Rattle.store_check.specs.declared.version.FoundVersion.{FoundVersion}
-use Rattle.store_check.specs.declared.chain.Chain.{Chain}
+use Rattle.store_check.specs.declared.chain.FoundFile.{FoundFile}
 use Rattle.store_check.specs.Surveyed.{blocks_in}
 use Rattle.store_check.specs.Versions.{shown_of, tried_at}
 use Rattle.store_check.specs.Files.{LikeFiles, own_pages}
@@ -61,10 +61,10 @@ returns-clause-walk g c = λ told laid files like few last prior.
       with_version_at (c.args.object - 1) found.0 files,
       (
         record {
-          is = c.set_last.ensures.set longer.chain (ap (λ (cs : List (Option Chain)). slice_get cs (c.args.object - 1)) like.is ∙ longer.was) fits
+          is = c.set_last.ensures.set longer.chain (ap (λ (cs : List (Option FoundFile)). slice_get cs (c.args.object - 1)) like.is ∙ longer.was) fits
               ∙ ap (λ (v : FoundVersion). set c.args.linked.now.chains.items (c.args.object - 1) (Some (with_last v c.saturating_sub-pages.result longer.chain))) found.1.0
               ∙ ap (λ (n : ℕ). set c.args.linked.now.chains.items (c.args.object - 1) (Some (with_last (shown_of found.0) n longer.chain))) pages
-              ∙ ap (λ (cs : List (Option Chain)). set cs (c.args.object - 1) (Some (with_last (shown_of found.0) (own_pages found.0) longer.chain))) like.is
+              ∙ ap (λ (cs : List (Option FoundFile)). set cs (c.args.object - 1) (Some (with_last (shown_of found.0) (own_pages found.0) longer.chain))) like.is
               ∙ sym longer.is;
           lie = longer_lies S s.count (c.args.object - 1) found.0 files found.1.1 like.lie;
         },
