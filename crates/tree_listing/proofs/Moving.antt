@@ -13,8 +13,8 @@ use Rattle.store_check.specs.Since.{OnlyRead, IsUnreadSince}
 use Rattle.store_check.proofs.ReadOnly.{unread_before, failed_before}
 use Rattle.pair_store.specs.declared.store.Blocks.{Ghosts}
 use Rattle.pair_store.specs.Faults.{IsStopped, IsUnread}
-use Rattle.tree_listing.specs.declared.refused.ListingRefused.{ListingRefused}
-use Rattle.tree_listing.specs.declared.refused.ListingRefused.TheVariants.{ReadFault, BadStore, Memory}
+use Rattle.store_check.specs.declared.refused.WalkRefused.{WalkRefused}
+use Rattle.store_check.specs.declared.refused.WalkRefused.TheVariants.{ReadFault, BadStore, Memory}
 use Rattle.tree_listing.specs.TreeText.{page_line, tree_text}
 use Rattle.tree_listing.proofs.Held.{tree_of}
 use Rattle.tree_model.specs.Trees.{Tree}
@@ -92,23 +92,23 @@ lines_slot path slot (e ∷ es) = λ i. page_line (sym (append_assoc path (slot 
 
 -- ---- outcomes
 
-pub stops_on : {X Y : Type 0} (e : ListingRefused) (o : Result X Refused) (p : Result Y Refused) → Stops e o → ((cause : Refused) → o ≡ Err cause → p ≡ Err cause) → Stops e p
+pub stops_on : {X Y : Type 0} (e : WalkRefused) (o : Result X Refused) (p : Result Y Refused) → Stops e o → ((cause : Refused) → o ≡ Err cause → p ≡ Err cause) → Stops e p
 stops_on (BadStore block why) o p h on = on (record { block = block; why = why }) h
 stops_on (ReadFault half) o p h on = tt
 stops_on Memory o p h on = tt
 
-pub lists_exit : {X : Type 0} (Are : List Entry → Type 0) (told : Type 0) (path old new : List ℕ) (result : Result X ListingRefused) (e : ListingRefused) (o : Result (List Entry) Refused)
+pub lists_exit : {X : Type 0} (Are : List Entry → Type 0) (told : Type 0) (path old new : List ℕ) (result : Result X WalkRefused) (e : WalkRefused) (o : Result (List Entry) Refused)
     → result ≡ Err e → (told → Stops e o) → Lists Are told path old new result o
-lists_exit {X} Are told path old new result e o is stops = let P : Result X ListingRefused → Type 0 = λ r. Lists Are told path old new r o in subst P (sym is) stops
+lists_exit {X} Are told path old new result e o is stops = let P : Result X WalkRefused → Type 0 = λ r. Lists Are told path old new r o in subst P (sym is) stops
 
 -- the same walk, told by less
-pub lists_as : {X : Type 0} (Are : List Entry → Type 0) (told less : Type 0) (path old new : List ℕ) (result : Result X ListingRefused) (o p : Result (List Entry) Refused)
+pub lists_as : {X : Type 0} (Are : List Entry → Type 0) (told less : Type 0) (path old new : List ℕ) (result : Result X WalkRefused) (o p : Result (List Entry) Refused)
     → (less → told) → (less → o ≡ p) → Lists Are told path old new result o → Lists Are less path old new result p
 lists_as Are told less path old new (Ok x) o p tells same (entries, are, is, text) = (entries, are, (λ l. sym (same l) ∙ is (tells l)), text)
 lists_as Are told less path old new (Err e) o p tells same stops = λ l. let P : Result (List Entry) Refused → Type 0 = λ r. Stops e r in subst P (same l) (stops (tells l))
 
 -- the page that a slot names is listed with all below it
-pub lists_slot : {X : Type 0} (told : Type 0) (path old new : List ℕ) (slot : ℕ) (result : Result X ListingRefused) (o : Result (List Entry) Refused)
+pub lists_slot : {X : Type 0} (told : Type 0) (path old new : List ℕ) (slot : ℕ) (result : Result X WalkRefused) (o : Result (List Entry) Refused)
     → Lists IsRising told (path ++ slot ∷ []) old new result o → Lists (AreUnder slot) told path old new result (and_then o (λ entries. Ok (map (under slot) entries)))
 lists_slot told path old new slot (Ok x) o (entries, rising, is, text) =
     (map (under slot) entries, record { seen = entries; rising = rising; are = refl }, (λ t. ap (λ r. and_then r (λ entries. Ok (map (under slot) entries))) (is t)), text ∙ ap (λ xs. old ++ xs) (sym (lines_slot path slot entries)))
@@ -120,7 +120,7 @@ pub lists_none : (told : Type 0) (path old new : List ℕ) (slot : ℕ) (o : Res
 lists_none told path old new slot o same is = ([], record { seen = []; rising = tt; are = refl }, (λ t. is), same ∙ sym (append-nil old))
 
 -- a page's own line stands before those of the pages below it
-pub lists_first : {X : Type 0} (told : Type 0) (path old mid new bytes : List ℕ) (result : Result X ListingRefused) (o : Result (List Entry) Refused)
+pub lists_first : {X : Type 0} (told : Type 0) (path old mid new bytes : List ℕ) (result : Result X WalkRefused) (o : Result (List Entry) Refused)
     → mid ≡ old ++ page_line path bytes → Lists (AreBelow 16) told path mid new result o → Lists IsRising told path old new result (and_then o (λ below. Ok (([], bytes) ∷ below)))
 lists_first told path old mid new bytes (Ok x) o line (entries, below, is, text) = (
   ([], bytes) ∷ entries,
@@ -173,15 +173,15 @@ slots_after told pages refs path old mid new k r entries cut far under is text =
       ∙ ap (λ xs. old ++ xs) (sym (lines_append path far.here entries));
 }
 
-pub slots_on : {X : Type 0} (told : Type 0) (pages : ℕ → Result (List Entry) Refused) (refs : List ReferenceValue) (path old mid new : List ℕ) (k : ℕ) (other : ReferenceValue) (result : Result X ListingRefused) (x : X)
+pub slots_on : {X : Type 0} (told : Type 0) (pages : ℕ → Result (List Entry) Refused) (refs : List ReferenceValue) (path old mid new : List ℕ) (k : ℕ) (other : ReferenceValue) (result : Result X WalkRefused) (x : X)
     → k < length refs → SlotsListed told pages refs path old mid k → result ≡ Ok x → Lists (AreUnder k) told path mid new result (slot_pages pages k (get_or refs k other).block)
     → SlotsListed told pages refs path old new (k + 1)
 slots_on {X} told pages refs path old mid new k other result x low far is lists =
-    let P : Result X ListingRefused → Type 0 = λ r. Lists (AreUnder k) told path mid new r (slot_pages pages k (get_or refs k other).block) in
+    let P : Result X WalkRefused → Type 0 = λ r. Lists (AreUnder k) told path mid new r (slot_pages pages k (get_or refs k other).block) in
     let l = subst P is lists in
     subst (λ (j : ℕ). SlotsListed told pages refs path old new j) (sym (add-one k)) (slots_after told pages refs path old mid new k (get_or refs k other) l.0 (drop-cons refs k other low) far l.1 l.2 l.3)
 
-pub slots_refused : (told : Type 0) (pages : ℕ → Result (List Entry) Refused) (refs : List ReferenceValue) (path old mid : List ℕ) (k : ℕ) (other : ReferenceValue) (e : ListingRefused)
+pub slots_refused : (told : Type 0) (pages : ℕ → Result (List Entry) Refused) (refs : List ReferenceValue) (path old mid : List ℕ) (k : ℕ) (other : ReferenceValue) (e : WalkRefused)
     → k < length refs → SlotsListed told pages refs path old mid k → (told → Stops e (slot_pages pages k (get_or refs k other).block)) → told → Stops e (slots_pages pages 0 refs)
 slots_refused told pages refs path old mid k other e low far stops t =
     stops_on e (slot_pages pages k (get_or refs k other).block) (slots_pages pages 0 refs) (stops t)
@@ -225,7 +225,7 @@ slot_names refs k other m low e = ap (option_and_then (λ (r : ReferenceValue). 
 
 -- ---- ends
 
-pub no_cause : {X : Type 0} (e : ListingRefused) (o : Result X Refused) (x : X) → Stops e o → o ≡ Ok x → IsNoCause e
+pub no_cause : {X : Type 0} (e : WalkRefused) (o : Result X Refused) (x : X) → Stops e o → o ≡ Ok x → IsNoCause e
 no_cause {X = X} (BadStore block why) o x stops is = absurd (no (sym stops ∙ is))
   where
     no : (let r : Result X Refused = Err (record { block = block; why = why }) in r) ≡ Ok x → ⊥
@@ -233,15 +233,15 @@ no_cause {X = X} (BadStore block why) o x stops is = absurd (no (sym stops ∙ i
 no_cause (ReadFault half) o x stops is = tt
 no_cause Memory o x stops is = tt
 
-pub gives_exit : {X : Type 0} (P : Type 0) (result : Result X ListingRefused) (e : ListingRefused) → result ≡ Err e → IsNoCause e → Gives P result
-gives_exit {X} P result e is none = let Q : Result X ListingRefused → Type 0 = λ r. Gives P r in subst Q (sym is) none
+pub gives_exit : {X : Type 0} (P : Type 0) (result : Result X WalkRefused) (e : WalkRefused) → result ≡ Err e → IsNoCause e → Gives P result
+gives_exit {X} P result e is none = let Q : Result X WalkRefused → Type 0 = λ r. Gives P r in subst Q (sym is) none
 
 -- a cause that is answered is the walk's
-pub cause_is : {X Y : Type 0} (e : ListingRefused) (result : Result Y ListingRefused) (o : Result X Refused) (block : ℕ) (why : Why) → result ≡ Err e → result ≡ Err (BadStore block why) → Stops e o
+pub cause_is : {X Y : Type 0} (e : WalkRefused) (result : Result Y WalkRefused) (o : Result X Refused) (block : ℕ) (why : Why) → result ≡ Err e → result ≡ Err (BadStore block why) → Stops e o
     → o ≡ Err (record { block = block; why = why })
 cause_is {X} e result o block why is bad stops =
     let one : e ≡ BadStore block why = cc in
-    let P : ListingRefused → Type 0 = λ x. Stops x o in subst P one stops
+    let P : WalkRefused → Type 0 = λ x. Stops x o in subst P one stops
 
 -- the walk of a version stops where its root is not found, and goes on where it is
 pub version_stops : (blocks : Blocks) (n : ℕ) (e : Refused) → root_in blocks n ≡ Err e → pages_of_version blocks n ≡ Err e
@@ -253,12 +253,12 @@ unfolding pages_of_version
 version_is blocks n page is = ap (λ r. and_then r (pages_from blocks 7 n)) is
 
 -- what a listing gives
-pub lists_lines : {X : Type 0} (told : Type 0) (old new : List ℕ) (result : Result X ListingRefused) (o : Result (List Entry) Refused) → Lists IsRising told [] old new result o
+pub lists_lines : {X : Type 0} (told : Type 0) (old new : List ℕ) (result : Result X WalkRefused) (o : Result (List Entry) Refused) → Lists IsRising told [] old new result o
     → OnOk result (AppendsTree old new)
 lists_lines told old new (Ok x) o (entries, rising, is, text) = tree_of old new entries rising text
 lists_lines told old new (Err e) o stops = tt
 
-pub lists_text : {X : Type 0} (told : Type 0) (old new : List ℕ) (result : Result X ListingRefused) (o : Result (List Entry) Refused) (tree : Tree) → Lists IsRising told [] old new result o
+pub lists_text : {X : Type 0} (told : Type 0) (old new : List ℕ) (result : Result X WalkRefused) (o : Result (List Entry) Refused) (tree : Tree) → Lists IsRising told [] old new result o
     → told → o ≡ Ok (finmap.entries tree) → Gives (new ≡ old ++ tree_text tree) result
 lists_text told old new (Ok x) o tree (entries, rising, is, text) t all =
     let one : entries ≡ finmap.entries tree = ok_is (sym (is t) ∙ all) in
@@ -268,7 +268,7 @@ lists_text told old new (Ok x) o tree (entries, rising, is, text) t all =
     ok_is h = cc
 lists_text told old new (Err e) o tree stops t all = no_cause e o (finmap.entries tree) (stops t) all
 
-pub lists_bad : {X : Type 0} (told : Type 0) (path old new : List ℕ) (result : Result X ListingRefused) (o : Result (List Entry) Refused) (block : ℕ) (why : Why) → Lists IsRising told path old new result o
+pub lists_bad : {X : Type 0} (told : Type 0) (path old new : List ℕ) (result : Result X WalkRefused) (o : Result (List Entry) Refused) (block : ℕ) (why : Why) → Lists IsRising told path old new result o
     → told → result ≡ Err (BadStore block why) → o ≡ Err (record { block = block; why = why })
 lists_bad {X} told path old new result o block why lists t bad =
-    let P : Result X ListingRefused → Type 0 = λ r. Lists IsRising told path old new r o in subst P bad lists t
+    let P : Result X WalkRefused → Type 0 = λ r. Lists IsRising told path old new r o in subst P bad lists t

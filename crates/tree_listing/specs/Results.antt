@@ -1,22 +1,19 @@
 -- What a listing in code gives, against what the blocks say.
 use Rattle.std.specs.Prelude.{◌≡◌, ℕ, List, ◌++◌, Result, Ok, Err}
 use Rattle.tree_model.specs.Trees.{Tree}
-use Rattle.page_codec.specs.declared.why.Why.TheVariants.{Closed}
-use Rattle.pair_store.specs.declared.fault.PairFault.{PairFault}
-use Rattle.pair_store.specs.declared.fault.PairFault.TheVariants.{ReadFault as Unread, WriteFault, BothClosed, BadPage}
 use Rattle.store_model.specs.Walk.{Refused}
-use Rattle.tree_listing.specs.declared.refused.ListingRefused.{ListingRefused}
-use Rattle.tree_listing.specs.declared.refused.ListingRefused.TheVariants.{ReadFault, BadStore, Memory}
+use Rattle.store_check.specs.declared.refused.WalkRefused.{WalkRefused}
+use Rattle.store_check.specs.declared.refused.WalkRefused.TheVariants.{ReadFault, BadStore, Memory}
 use Rattle.tree_listing.specs.TreeText.{tree_text}
 
 -- it stops at the same cause; a fault and want of memory say nothing
-abbrev pub Stops : {X : Type 0} → ListingRefused → Result X Refused → Type 0
+abbrev pub Stops : {X : Type 0} → WalkRefused → Result X Refused → Type 0
 Stops (BadStore block why) outcome = outcome ≡ Err (record { block = block; why = why })
 Stops (ReadFault half) outcome = Unit {0}
 Stops Memory outcome = Unit {0}
 
 -- it finds what is there, or stops at the cause that is there
-abbrev pub Finds : {X : Type 0} → Result X ListingRefused → Result X Refused → Type 0
+abbrev pub Finds : {X : Type 0} → Result X WalkRefused → Result X Refused → Type 0
 Finds (Ok x) outcome = outcome ≡ Ok x
 Finds (Err e) outcome = Stops e outcome
 
@@ -29,19 +26,12 @@ abbrev pub Grows : List ℕ → List ℕ → Type 0
 Grows old new = (more : List ℕ) × (new ≡ old ++ more)
 
 -- a fault, or want of memory
-abbrev pub IsNoCause : ListingRefused → Type 0
+abbrev pub IsNoCause : WalkRefused → Type 0
 IsNoCause (BadStore block why) = ⊥
 IsNoCause (ReadFault half) = Unit {0}
 IsNoCause Memory = Unit {0}
 
 -- this holds at Ok, and no cause of the store's is answered
-abbrev pub Gives : {T : Type 0} → Type 0 → Result T ListingRefused → Type 0
+abbrev pub Gives : {T : Type 0} → Type 0 → Result T WalkRefused → Type 0
 Gives P (Ok x) = P
 Gives P (Err e) = IsNoCause e
-
--- a block that could not be read: a fault of a half, or else neither half has content
-abbrev pub refused_read : ℕ → PairFault → ListingRefused
-refused_read n (Unread half) = ReadFault half
-refused_read n (WriteFault half) = BadStore n Closed
-refused_read n (BothClosed block) = BadStore n Closed
-refused_read n (BadPage block why) = BadStore n Closed

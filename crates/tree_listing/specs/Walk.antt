@@ -6,7 +6,7 @@ use Rattle.std.specs.FinMap.Entries.{is_sorted}
 use Rattle.afs_base.specs.Path.{path_cmp}
 use Rattle.page_codec.specs.Values.{PageValue, ReferenceValue}
 use Rattle.store_model.specs.Walk.{Blocks, Refused}
-use Rattle.tree_listing.specs.declared.refused.ListingRefused.{ListingRefused}
+use Rattle.store_check.specs.declared.refused.WalkRefused.{WalkRefused}
 use Rattle.tree_listing.specs.TreeText.{page_line}
 use Rattle.tree_listing.specs.FirstFault.{and_then, page_named, root_in}
 use Rattle.tree_listing.specs.Results.{Stops}
@@ -74,6 +74,6 @@ pub record AreUnder (slot : ℕ) (entries : List Entry) : Type 0 where
 
 -- It appends the lines of entries of this kind, which are those that the walk meets, where that is told. Or it stops, where that is told where
 -- the walk stops.
-abbrev pub Lists : {X : Type 0} → (List Entry → Type 0) → Type 0 → List ℕ → List ℕ → List ℕ → Result X ListingRefused → Result (List Entry) Refused → Type 0
+abbrev pub Lists : {X : Type 0} → (List Entry → Type 0) → Type 0 → List ℕ → List ℕ → List ℕ → Result X WalkRefused → Result (List Entry) Refused → Type 0
 Lists Are told path old new (Ok _) outcome = (entries : List Entry) × Are entries × (told → outcome ≡ Ok entries) × (new ≡ old ++ lines_under path entries)
 Lists Are told path old new (Err e) outcome = told → Stops e outcome

@@ -5,8 +5,6 @@ mod laws;
 mod line;
 mod listing;
 mod reading;
-mod refused;
 
 pub use laws::{first_fault_law, held_law};
 pub use listing::list_tree;
-pub use refused::ListingRefused;

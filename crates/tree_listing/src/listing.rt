@@ -7,7 +7,7 @@ ghost use Rattle.page_places.specs.Places.{Holds};
 ghost use Rattle.store_model.specs.Laws.{pages_of};
 ghost use Rattle.pair_store.specs.Faults.{IsStopped};
 ghost use Rattle.store_check.specs.Since.{IsUnreadSince, OnlyRead};
-ghost use Rattle.tree_listing.specs.declared.refused.ListingRefused.{ListingRefused};
+ghost use Rattle.store_check.specs.declared.refused.WalkRefused.{WalkRefused};
 ghost use Rattle.tree_listing.specs.TreeText.{tree_text};
 ghost use Rattle.tree_listing.specs.Listing.{AreReadable, EachBelow, EachBelowSlots, IsOpen, blocks_of};
 ghost use Rattle.tree_listing.specs.FirstFault.{IsFirstFault};
@@ -16,11 +16,11 @@ ghost use Rattle.tree_listing.specs.Walk.{AreBelow, AreUnder, IsRising, Lists, p
 
 use crate::line::append_line;
 use crate::reading::{page_named, root_in};
-use crate::refused::ListingRefused;
 use afs_base::{BlockNo, Path, Slot};
 use page_codec::{Page, Reference, SLOTS};
 use pair_store::Blocks;
 use std::alloc::Global;
+use store_check::WalkRefused;
 
 /// The path of the page in slot `k` of the page at a path.
 fn child_of(path: &Path, k: usize) -> Path
@@ -41,7 +41,7 @@ fn list_page<B: Blocks>(
     page: &Page,
     depth: u8,
     out: &mut Vec<u8>,
-) -> Result<(), ListingRefused>
+) -> Result<(), WalkRefused>
     requires { length path.now + depth ≡ 7 }
     ensures only { OnlyRead B.Blocks store.old store.new }
     ensures grows { Grows out.old.items out.new.items }
@@ -51,10 +51,10 @@ fn list_page<B: Blocks>(
         (pages_from (blocks_of B.content B.size store.old) depth n page.now) }
     ensures stopped { B.tells → EachBelowSlots (IsOpen (B.settled store.old) (B.content store.old))
         (pages_of (B.content store.old)) page.now.refs
-        → (h : Half) → IsErrOf result (ListingRefused.ReadFault h)
+        → (h : Half) → IsErrOf result (WalkRefused.ReadFault h)
         → IsStopped (B.faults store.old) (B.faults store.new) (B.last_fault store.new)
         (B.moment store.new) h }
-    ensures unread { (h : Half) → IsErrOf result (ListingRefused.ReadFault h)
+    ensures unread { (h : Half) → IsErrOf result (WalkRefused.ReadFault h)
         → IsUnreadSince B.Blocks store.old store.new h }
 {
     append_line(alloc, path, page.bytes.bytes(), out)?;
@@ -74,7 +74,7 @@ fn list_slots<B: Blocks>(
     refs: &[Reference; SLOTS],
     depth: u8,
     out: &mut Vec<u8>,
-) -> Result<(), ListingRefused>
+) -> Result<(), WalkRefused>
     requires { length path.now + depth ≡ 6 }
     ensures only { OnlyRead B.Blocks store.old store.new }
     ensures grows { Grows out.old.items out.new.items }
@@ -85,10 +85,10 @@ fn list_slots<B: Blocks>(
         (blocks_of B.content B.size store.old) depth namer) 0 refs.now) }
     ensures stopped { B.tells → EachBelowSlots (IsOpen (B.settled store.old) (B.content store.old))
         (pages_of (B.content store.old)) refs.now
-        → (h : Half) → IsErrOf result (ListingRefused.ReadFault h)
+        → (h : Half) → IsErrOf result (WalkRefused.ReadFault h)
         → IsStopped (B.faults store.old) (B.faults store.new) (B.last_fault store.new)
         (B.moment store.new) h }
-    ensures unread { (h : Half) → IsErrOf result (ListingRefused.ReadFault h)
+    ensures unread { (h : Half) → IsErrOf result (WalkRefused.ReadFault h)
         → IsUnreadSince B.Blocks store.old store.new h }
 {
     'slots: for k in 0..SLOTS {
@@ -108,7 +108,7 @@ fn list_slot<B: Blocks>(
     reference: &Reference,
     depth: u8,
     out: &mut Vec<u8>,
-) -> Result<(), ListingRefused>
+) -> Result<(), WalkRefused>
     requires slot { k < 16 }
     requires deep { length path.now + depth ≡ 6 }
     ensures only { OnlyRead B.Blocks store.old store.new }
@@ -121,10 +121,10 @@ fn list_slot<B: Blocks>(
     ensures stopped { B.tells → ((m : ℕ) → reference.now.block ≡ Some m
         → EachBelow (IsOpen (B.settled store.old) (B.content store.old))
         (pages_of (B.content store.old)) m)
-        → (h : Half) → IsErrOf result (ListingRefused.ReadFault h)
+        → (h : Half) → IsErrOf result (WalkRefused.ReadFault h)
         → IsStopped (B.faults store.old) (B.faults store.new) (B.last_fault store.new)
         (B.moment store.new) h }
-    ensures unread { (h : Half) → IsErrOf result (ListingRefused.ReadFault h)
+    ensures unread { (h : Half) → IsErrOf result (WalkRefused.ReadFault h)
         → IsUnreadSince B.Blocks store.old store.new h }
 {
     match reference.block {
@@ -144,7 +144,7 @@ pub fn list_tree<B: Blocks>(
     store: &mut B,
     root: BlockNo,
     out: &mut Vec<u8>,
-) -> Result<(), ListingRefused>
+) -> Result<(), WalkRefused>
     ensures only { OnlyRead B.Blocks store.old store.new }
     ensures grows { Grows out.old.items out.new.items }
     // What is appended is the text of some tree, whatever the blocks hold.
@@ -155,16 +155,16 @@ pub fn list_tree<B: Blocks>(
         → Gives (out.new.items ≡ out.old.items ++ tree_text tree) result }
     // Where they hold none, the block and the cause are those of the first fault.
     ensures bad { B.tells → EachBelow (B.settled store.old) (pages_of (B.content store.old)) root
-        → (block : ℕ) (why : Why) → IsErrOf result (ListingRefused.BadStore block why)
+        → (block : ℕ) (why : Why) → IsErrOf result (WalkRefused.BadStore block why)
         → IsFirstFault (blocks_of B.content B.size store.old) root
         (record { block = block; why = why }) }
     // And a half that failed did so in the last call.
     ensures stopped { B.tells → (tree : Tree) → Holds (pages_of (B.content store.old)) root tree
         → AreReadable (B.settled store.old) (B.size store.old) (pages_of (B.content store.old)) root
-        → (h : Half) → IsErrOf result (ListingRefused.ReadFault h)
+        → (h : Half) → IsErrOf result (WalkRefused.ReadFault h)
         → IsStopped (B.faults store.old) (B.faults store.new) (B.last_fault store.new)
         (B.moment store.new) h }
-    ensures unread { (h : Half) → IsErrOf result (ListingRefused.ReadFault h)
+    ensures unread { (h : Half) → IsErrOf result (WalkRefused.ReadFault h)
         → IsUnreadSince B.Blocks store.old store.new h }
 {
     let page = root_in(store, root)?;

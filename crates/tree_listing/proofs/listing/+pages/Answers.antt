@@ -4,7 +4,7 @@ use Rattle.page_codec.specs.Values.{PageValue, ReferenceValue}
 use Rattle.store_model.specs.Walk.{Blocks}
 use Rattle.store_model.specs.Laws.{pages_of}
 use Rattle.store_check.proofs.ReadOnly.{none_read, read_on}
-use Rattle.tree_listing.specs.declared.refused.ListingRefused.{ListingRefused}
+use Rattle.store_check.specs.declared.refused.WalkRefused.{WalkRefused}
 use Rattle.tree_listing.specs.TreeText.{page_line}
 use Rattle.tree_listing.specs.Listing.{EachBelow, EachBelowSlots, IsOpen, blocks_of}
 use Rattle.tree_listing.specs.FirstFault.{and_then, page_named}
@@ -87,7 +87,7 @@ list_slot-returns-in_err-page-in-Some-clause-stopped g t c = λ told each h is.
     let n = c.in-Some.n in
     let p = err_from_is_err_and c.from_residual.result c.from_residual.ensures.1 in
     let at : c.args.reference.now.block ≡ Some n = sym (ap (λ (r : ReferenceValue). r.block) c.reference.view_is) ∙ c.in-Some.is in
-    let one : c.in_err-page-in-Some.field-0.0 ≡ ListingRefused.ReadFault h = cc in
+    let one : c.in_err-page-in-Some.field-0.0 ≡ WalkRefused.ReadFault h = cc in
     c.in_err-page-in-Some.ensures.stopped told (each n at [] n refl) h (ap Err one)
 
 pub list_slot-returns-in-None-clause-only : goal.list_slot-returns-in-None-clause-only
@@ -209,7 +209,7 @@ list_slots-returns-in_err-list_slot-clause-stopped g t c = λ told each h is.
     let refs = c.args.refs.now in
     let p = err_from_is_err_and c.from_residual.result c.from_residual.ensures.1 in
     let low : k < length refs = Prim.omega (arith, c.type_inv.refs, c.slots-test.true) in
-    let one : c.in_err-list_slot.field-0.0 ≡ ListingRefused.ReadFault h = cc in
+    let one : c.in_err-list_slot.field-0.0 ≡ WalkRefused.ReadFault h = cc in
     stopped_since b s c.slots.store c.list_slot.new.store h i.only
     (c.in_err-list_slot.ensures.stopped told
     (λ m e. each_open_on b s c.slots.store i.only told m (each k m (slot_names refs k other m low e)))
@@ -220,7 +220,7 @@ pub list_slots-returns-in_err-list_slot-clause-unread :
 list_slots-returns-in_err-list_slot-clause-unread g t c = λ h is.
     let b = g.B.Blocks in
     let p = err_from_is_err_and c.from_residual.result c.from_residual.ensures.1 in
-    let one : c.in_err-list_slot.field-0.0 ≡ ListingRefused.ReadFault h = cc in
+    let one : c.in_err-list_slot.field-0.0 ≡ WalkRefused.ReadFault h = cc in
     unread_since b c.args.store.now c.slots.store c.list_slot.new.store h
     c.slots.invariant.only (c.in_err-list_slot.ensures.unread h (ap Err one))
 
@@ -234,7 +234,7 @@ list_slots-slots-preserved g t c =
     let refs = c.args.refs.now in
     let low : k < length refs = Prim.omega (arith, c.type_inv.refs, c.slots-test.true) in
     let told : Type 0 = b.tells × EachBelowSlots (b.settled s) (pages_of (b.content s)) refs in
-    let one : Result (Unit {0}) ListingRefused = Ok tt in
+    let one : Result (Unit {0}) WalkRefused = Ok tt in
     let here = lists_as {X = Unit {0}} (AreUnder k) _ told c.args.path.now c.slots.out.items c.list_slot.new.out.items one
     (slot_pages (pages_named (blocks_of b.content b.size c.slots.store) c.args.depth c.args.namer) k (get_or refs k other).block)
     (slot_pages (pages_named (blocks_of b.content b.size s) c.args.depth c.args.namer) k (get_or refs k other).block)

@@ -4,7 +4,7 @@ use Rattle.page_codec.specs.Values.{PageValue}
 use Rattle.store_model.specs.Walk.{Blocks, Refused}
 use Rattle.store_model.specs.Laws.{pages_of}
 use Rattle.store_check.proofs.ReadOnly.{read_on}
-use Rattle.tree_listing.specs.declared.refused.ListingRefused.{ListingRefused}
+use Rattle.store_check.specs.declared.refused.WalkRefused.{WalkRefused}
 use Rattle.tree_listing.specs.Listing.{EachBelow, EachBelowSlots, IsOpen, blocks_of}
 use Rattle.tree_listing.specs.FirstFault.{root_in}
 use Rattle.tree_listing.specs.Walk.{IsRising, Lists, pages_from}
@@ -42,7 +42,7 @@ returns-in_err-page-clause-stopped g c = λ told tree holds readable h is.
     let b = g.B.Blocks in
     let s = c.args.store.now in
     let p = err_from_is_err_and c.from_residual.result c.from_residual.ensures.1 in
-    let one : c.in_err-page.field-0.0 ≡ ListingRefused.ReadFault h = cc in
+    let one : c.in_err-page.field-0.0 ≡ WalkRefused.ReadFault h = cc in
     let page = holds.page [] c.args.root refl in
     c.in_err-page.ensures.stopped told
     (record { settled_here = readable.settled_each [] c.args.root refl; some = has_content (b.content s) c.args.root page.0 page.1 }) h (ap Err one)

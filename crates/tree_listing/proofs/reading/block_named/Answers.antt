@@ -3,9 +3,9 @@ use Rattle.drives.specs.declared.device.Half.{Half}
 use Rattle.pair_store.specs.declared.fault.PairFault.{PairFault}
 use Rattle.pair_store.specs.declared.fault.PairFault.TheVariants.{ReadFault as Unread, WriteFault, BothClosed, BadPage}
 use Rattle.store_check.proofs.ReadOnly.{none_read}
-use Rattle.tree_listing.specs.declared.refused.ListingRefused.{ListingRefused}
-use Rattle.tree_listing.specs.declared.refused.ListingRefused.TheVariants.{ReadFault}
-use Rattle.tree_listing.specs.Results.{refused_read}
+use Rattle.store_check.specs.declared.refused.WalkRefused.{WalkRefused}
+use Rattle.store_check.specs.declared.refused.WalkRefused.TheVariants.{ReadFault}
+use Rattle.store_check.specs.Results.{refused_read}
 use Rattle.tree_listing.proofs.reading.block_named.Goals as goal
 
 pub returns-then-get-blocks-clause-only : goal.returns-then-get-blocks-clause-only
@@ -20,7 +20,7 @@ unread_is n (WriteFault k) h e = absurd cc
 unread_is n (BothClosed m) h e = absurd cc
 unread_is n (BadPage m why) h e = absurd cc
 
-err_is : {X : Type 0} {x y : ListingRefused} → (let r : Result X ListingRefused = Err x in r) ≡ Err y → x ≡ y
+err_is : {X : Type 0} {x y : WalkRefused} → (let r : Result X WalkRefused = Err x in r) ≡ Err y → x ≡ y
 err_is h = cc
 
 pub returns-in-Err-clause-unread : goal.returns-in-Err-clause-unread
