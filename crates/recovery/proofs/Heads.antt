@@ -6,7 +6,7 @@ use Rattle.afs_base.specs.declared.head.Head.{Head}
 use Rattle.store_model.specs.Laid.{LaidVersion, LaidFile, last_laid}
 use Rattle.store_model.specs.Changes.{changed_at, file_with}
 use Rattle.store_model.proofs.Edits.{some_is, none_some, changed_length, map_changed}
-use Rattle.store_check.specs.declared.chain.Chain.{Chain}
+use Rattle.store_check.specs.declared.chain.FoundFile.{FoundFile}
 use Rattle.store_check.specs.Counts.{kept_in}
 use Rattle.store_check.specs.Versions.{shown_of}
 use Rattle.store_check.specs.Files.{first_serial, kept_by, own_pages, unset_base, chain_of}
@@ -61,13 +61,13 @@ same_items (x ∷ xs) (y ∷ ys) long same =
 
 -- ---- what is kept of a file
 
-pub record KeptOf (versions : List LaidVersion) (chain : Chain) : Type 0 where
+pub record KeptOf (versions : List LaidVersion) (chain : FoundFile) : Type 0 where
   pub last : LaidVersion
   pub is : last_laid versions ≡ Some last
   pub shown : chain.last ≡ shown_of last
   pub unset : chain.unset ≡ unset_base versions
 
-kept_from : (versions : List LaidVersion) (chain : Chain) (o : Option LaidVersion) → last_laid versions ≡ o
+kept_from : (versions : List LaidVersion) (chain : FoundFile) (o : Option LaidVersion) → last_laid versions ≡ o
     → option_map (λ last. record { last = shown_of last; first = first_serial versions; unset = unset_base versions; kept = kept_by versions }) o ≡ Some chain
     → KeptOf versions chain
 kept_from versions chain None is e = none_some e
@@ -76,15 +76,15 @@ kept_from versions chain (Some last) is e =
     record {
       last = last;
       is = is;
-      shown = ap (λ (c : Chain). c.last) (sym same);
-      unset = ap (λ (c : Chain). c.unset) (sym same);
+      shown = ap (λ (c : FoundFile). c.last) (sym same);
+      unset = ap (λ (c : FoundFile). c.unset) (sym same);
     }
 
-pub kept_of : (versions : List LaidVersion) (chain : Chain) → chain_of versions ≡ Some chain → KeptOf versions chain
+pub kept_of : (versions : List LaidVersion) (chain : FoundFile) → chain_of versions ≡ Some chain → KeptOf versions chain
 kept_of versions chain e = kept_from versions chain (last_laid versions) refl e
 
 none_from : (versions : List LaidVersion) (o : Option LaidVersion) → last_laid versions ≡ o
-    → option_map (λ (last : LaidVersion). (let c : Chain = record { last = shown_of last; first = first_serial versions; unset = unset_base versions; kept = kept_by versions } in c)) o ≡ None
+    → option_map (λ (last : LaidVersion). (let c : FoundFile = record { last = shown_of last; first = first_serial versions; unset = unset_base versions; kept = kept_by versions } in c)) o ≡ None
     → last_laid versions ≡ None
 none_from versions None is e = is
 none_from versions (Some last) is e = none_some (sym e)
@@ -94,15 +94,15 @@ kept_none versions e = none_from versions (last_laid versions) refl e
 
 shown_from : (versions : List LaidVersion) (o : Option LaidVersion)
     → option_map shown_of o
-    ≡ option_map (λ (chain : Chain). chain.last)
+    ≡ option_map (λ (chain : FoundFile). chain.last)
     (option_map (λ last. record { last = shown_of last; first = first_serial versions; unset = unset_base versions; kept = kept_by versions }) o)
 shown_from versions None = refl
 shown_from versions (Some v) = refl
 
 -- the last version of a file is the one that is kept
-pub chain_shown : (versions : List LaidVersion) (o : Option Chain) → chain_of versions ≡ o
-    → option_map shown_of (last_laid versions) ≡ option_map (λ (chain : Chain). chain.last) o
-chain_shown versions o e = shown_from versions (last_laid versions) ∙ ap (option_map (λ (chain : Chain). chain.last)) e
+pub chain_shown : (versions : List LaidVersion) (o : Option FoundFile) → chain_of versions ≡ o
+    → option_map shown_of (last_laid versions) ≡ option_map (λ (chain : FoundFile). chain.last) o
+chain_shown versions o e = shown_from versions (last_laid versions) ∙ ap (option_map (λ (chain : FoundFile). chain.last)) e
 
 -- ---- the link that is outstanding
 

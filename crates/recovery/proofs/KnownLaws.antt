@@ -19,10 +19,10 @@ use Rattle.store_model.proofs.Stores.{unlinked, Parts, parts_of}
 use Rattle.store_model.proofs.Aside.{objects_in, tops_step}
 use Rattle.store_model.proofs.Hits.{Outcome, missed, frozen, hit, tops_outcome}
 use Rattle.store_model.proofs.Edits.{some_is, last_past}
-use Rattle.store_check.specs.declared.chain.Chain.{Chain}
+use Rattle.store_check.specs.declared.chain.FoundFile.{FoundFile}
 use Rattle.store_check.specs.declared.version.FoundVersion.{FoundVersion}
-use Rattle.store_check.specs.declared.refused.CheckRefused.{CheckRefused}
-use Rattle.store_check.specs.declared.refused.CheckRefused.TheVariants.{ReadFault as Unchecked, BadStore as BadCheck, Memory as NoMemory}
+use Rattle.store_check.specs.declared.refused.WalkRefused.{WalkRefused}
+use Rattle.store_check.specs.declared.refused.WalkRefused.TheVariants.{ReadFault as Unchecked, BadStore as BadCheck, Memory as NoMemory}
 use Rattle.store_check.specs.Checked.{Answers}
 use Rattle.store_check.specs.Results.{Outcome as Walked}
 use Rattle.store_check.specs.Since.{is_past}
@@ -37,7 +37,7 @@ head_told : (versions : List LaidVersion) → option_map head_from (chain_of ver
 head_told versions = of (last_laid versions)
   where
     of : (o : Option LaidVersion)
-        → option_map head_from (option_map (λ (last : LaidVersion). (let c : Chain = record { last = shown_of last; first = first_serial versions; unset = unset_base versions; kept = kept_by versions } in c)) o)
+        → option_map head_from (option_map (λ (last : LaidVersion). (let c : FoundFile = record { last = shown_of last; first = first_serial versions; unset = unset_base versions; kept = kept_by versions } in c)) o)
         ≡ option_map (λ (last : LaidVersion). (let h : Head = record { block = last.block; first = first_serial versions; serial = last.serial; kept = kept_by versions } in h)) o
     of None = refl
     of (Some v) = refl
@@ -75,7 +75,7 @@ last_low c most store places e k file v listed last =
         let is : v ≡ z.version = some_is (sym last ∙ ap (λ (f : LaidFile). last_laid f.versions) same ∙ last_past z.file.versions z.version) in
         subst (λ (w : LaidVersion). InRange p.root.blocks w.block) (sym is) (z.again.each z.version.block z.again.here)
 
-pub chain_low_block : (c : Content) (most : ℕ) (store : LaidStore) (places : List ℕ) → laid c most [] ≡ Ok (store, places) → (k : ℕ) (kept : Chain)
+pub chain_low_block : (c : Content) (most : ℕ) (store : LaidStore) (places : List ℕ) → laid c most [] ≡ Ok (store, places) → (k : ℕ) (kept : FoundFile)
     → slice_get (chains_of store.files) k ≡ Some (Some kept) → kept.last.block < store.root.blocks
 chain_low_block c most store places e k kept is =
     let m : MapAt (λ (file : LaidFile). chain_of file.versions) store.files k (Some kept) = map_at (λ (file : LaidFile). chain_of file.versions) store.files k (Some kept) is in
@@ -85,12 +85,12 @@ chain_low_block c most store places e k kept is =
 -- ---- where the check found no store
 
 -- the refusal of a check says the same of what is found
-pub refused_knows : (past : Half → Bool) (e : CheckRefused) (outcome : Walked LaidStore) → Answers past (Err e) outcome → Knows (Err (refused_check e)) outcome
+pub refused_knows : (past : Half → Bool) (e : WalkRefused) (outcome : Walked LaidStore) → Answers past (Err e) outcome → Knows (Err (refused_check e)) outcome
 refused_knows past (Unchecked half) outcome is = tt
 refused_knows past (BadCheck block why) outcome is = is
 refused_knows past NoMemory outcome is = tt
 
-pub check_read : (e : CheckRefused) (h : Half) → refused_check e ≡ ReadFault h → e ≡ Unchecked h
+pub check_read : (e : WalkRefused) (h : Half) → refused_check e ≡ ReadFault h → e ≡ Unchecked h
 check_read (Unchecked half) h is = ap Unchecked (let same : ReadFault half ≡ ReadFault h = is in cc)
 check_read (BadCheck block why) h is = absurd cc
 check_read NoMemory h is = absurd cc

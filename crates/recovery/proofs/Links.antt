@@ -21,7 +21,7 @@ use Rattle.store_model.proofs.Edits.{some_is, none_some, changed_other, changed_
 use Rattle.store_model.proofs.PageBytes.{rewrites_commit}
 use Rattle.store_model.proofs.SettingLinks.{Found, finds, linking_keeps}
 use Rattle.store_model.proofs.LastLinks.{links_are_set, linked_now}
-use Rattle.store_check.specs.declared.chain.Chain.{Chain}
+use Rattle.store_check.specs.declared.chain.FoundFile.{FoundFile}
 use Rattle.store_check.specs.declared.version.FoundVersion.{FoundVersion}
 use Rattle.store_check.specs.Versions.{shown_of}
 use Rattle.store_check.specs.Files.{chain_of, unset_base}
@@ -83,7 +83,7 @@ pub record LinkAt (store : LaidStore) (k base next : ℕ) : Type 0 where
   pub next_is : link.next.block ≡ next
 
 pub link_at : (c : Content) (most : ℕ) (store : LaidStore) (places : List ℕ) → laid c most [] ≡ Ok (store, places)
-    → (k : ℕ) (file : LaidFile) (chain : Chain) (base : ℕ) → slice_get store.files k ≡ Some file → chain_of file.versions ≡ Some chain
+    → (k : ℕ) (file : LaidFile) (chain : FoundFile) (base : ℕ) → slice_get store.files k ≡ Some file → chain_of file.versions ≡ Some chain
     → chain.unset ≡ Some base → LinkAt store k base chain.last.block
 link_at c most store places e k file chain base listed is unset =
     let ch : KeptOf file.versions chain = kept_of file.versions chain is in
@@ -124,8 +124,8 @@ linked_if : (c : Content) (most : ℕ) (store : LaidStore) (places : List ℕ) (
 linked_if c most store places k file e listed none =
     elim (links_are_set c most store places e k file listed) [ inl linked ↦ linked | inr l ↦ absurd (none l) ]
 
-kept_linked : (c : Content) (most : ℕ) (store : LaidStore) (places : List ℕ) (k : ℕ) (file : LaidFile) (o : Option Chain) → laid c most [] ≡ Ok (store, places)
-    → slice_get store.files k ≡ Some file → chain_of file.versions ≡ o → option_and_then (λ (ch : Chain). ch.unset) o ≡ None → IsLinked file
+kept_linked : (c : Content) (most : ℕ) (store : LaidStore) (places : List ℕ) (k : ℕ) (file : LaidFile) (o : Option FoundFile) → laid c most [] ≡ Ok (store, places)
+    → slice_get store.files k ≡ Some file → chain_of file.versions ≡ o → option_and_then (λ (ch : FoundFile). ch.unset) o ≡ None → IsLinked file
 kept_linked c most store places k file None e listed is unset =
     linked_if c most store places k file e listed (λ l. none_some (sym (kept_none file.versions is) ∙ (last_unset store k file listed l).1))
 kept_linked c most store places k file (Some chain) e listed is unset =
@@ -136,7 +136,7 @@ kept_linked c most store places k file (Some chain) e listed is unset =
 
 module _ (most : ℕ) (known : Known) (k : ℕ) (c : Content) (s : ℕ → Type 0) (r : Rolling SetLinks most known k c s) where
   -- the file that the step comes to, as it was found
-  pub file_was : (o : Option Chain) → slice_get known.chains.items k ≡ Some o → MapAt (λ (file : LaidFile). chain_of file.versions) r.before.files k o
+  pub file_was : (o : Option FoundFile) → slice_get known.chains.items k ≡ Some o → MapAt (λ (file : LaidFile). chain_of file.versions) r.before.files k o
   file_was o kept = map_at (λ (file : LaidFile). chain_of file.versions) r.before.files k o (ap (λ l. slice_get l k) (sym r.is.chains) ∙ kept)
 
   -- it is still there so
@@ -146,7 +146,7 @@ module _ (most : ℕ) (known : Known) (k : ℕ) (c : Content) (s : ℕ → Type 
       f.listed ∙ ap Some (r.ahead k was f.file (omega arith) at f.listed)
 
   -- a file with no link outstanding
-  pub link_none : (o : Option Chain) → slice_get known.chains.items k ≡ Some o → option_and_then (λ (ch : Chain). ch.unset) o ≡ None
+  pub link_none : (o : Option FoundFile) → slice_get known.chains.items k ≡ Some o → option_and_then (λ (ch : FoundFile). ch.unset) o ≡ None
       → (now : LaidFile) → slice_get r.stands.store.files k ≡ Some now → IsLinked now
   link_none o kept unset now listed =
       let m : MapAt (λ (file : LaidFile). chain_of file.versions) r.before.files k o = file_was o kept in
@@ -156,7 +156,7 @@ module _ (most : ℕ) (known : Known) (k : ℕ) (c : Content) (s : ℕ → Type 
   commit_keeps : (b : ℕ) → KeepsHead (committed b)
   commit_keeps b = record { serial = λ v. refl; block = λ v. refl; own = λ v. refl }
 
-  module _ (chain : Chain) (base next : ℕ) (kept : slice_get known.chains.items k ≡ Some (Some chain)) (unset : chain.unset ≡ Some base)
+  module _ (chain : FoundFile) (base next : ℕ) (kept : slice_get known.chains.items k ≡ Some (Some chain)) (unset : chain.unset ≡ Some base)
       (last : chain.last.block ≡ next) where
     was : MapAt (λ (file : LaidFile). chain_of file.versions) r.before.files k (Some chain)
     was = file_was (Some chain) kept

@@ -15,7 +15,7 @@ use Rattle.pair_store.specs.ContentLaws.{decide}
 use Rattle.pair_store.specs.declared.fault.PairFault.{PairFault}
 use Rattle.pair_store.specs.declared.fault.PairFault.TheVariants.{ReadFault, WriteFault, BothClosed, BadPage}
 use Rattle.pair_store.specs.Mending.{IsFaultOf, WroteNothing}
-use Rattle.store_check.specs.Checked.{IsMended}
+use Rattle.store_check.specs.Checked.{AreSettled}
 use Rattle.recovery.specs.Aside.{SameAside}
 use Rattle.recovery.specs.Mended.{OnlyMended, SameFrom, blocks_in_table, table_in}
 use Rattle.pair_store.specs.Answers.{IsUntorn}
@@ -43,7 +43,7 @@ stopped_unread before after last moment E h is = record { failed = is.failed; la
 
 -- a block is settled where its number is in the table
 pub is_mended : (settled : ℕ → Type 0) (content : ℕ → Option (List ℕ)) (size told : ℕ) → told ≡ blocks_in_table (table_in (content 0)) → settled 0
-    → ((n : ℕ) → 1 ≤ n → n < min told size → settled n) → IsMended settled content size
+    → ((n : ℕ) → 1 ≤ n → n < min told size → settled n) → AreSettled settled content size
 is_mended settled content size told is table others =
     record {
       table = table;

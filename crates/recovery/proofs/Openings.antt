@@ -19,7 +19,7 @@ use Rattle.store_model.proofs.PlaceLists.{IsIn}
 use Rattle.store_model.proofs.Steps.{Content}
 use Rattle.store_model.proofs.Stores.{Parts, parts_of}
 use Rattle.store_model.proofs.Edits.{none_some, some_is, within}
-use Rattle.store_check.specs.Checked.{IsMended}
+use Rattle.store_check.specs.Checked.{AreSettled}
 use Rattle.store_check.specs.Counts.{parts_in, kept_in}
 use Rattle.store_check.specs.Files.{chain_of}
 use Rattle.store_check.specs.Marks.{Marks, mark_of}
@@ -46,7 +46,7 @@ use Rattle.recovery.proofs.Turning.{FileAt, file_at, files_long, more_rolling}
 -- ---- from one step to the next
 
 -- each block of a store that was mended is settled
-pub each_mended : (c : Content) (s : ℕ → Type 0) (most : ℕ) (store : LaidStore) (places : List ℕ) → laid c most [] ≡ Ok (store, places) → IsMended s c most
+pub each_mended : (c : Content) (s : ℕ → Type 0) (most : ℕ) (store : LaidStore) (places : List ℕ) → laid c most [] ≡ Ok (store, places) → AreSettled s c most
     → (n : ℕ) → n < store.root.blocks → s n
 each_mended c s most store places e mended n low =
     let p : Parts c most store places = parts_of c most store places e in
@@ -59,7 +59,7 @@ one store j was now at listed = some_is (sym listed ∙ at)
 
 -- no link is set yet
 pub links_begin : (c : Content) (s : ℕ → Type 0) (most : ℕ) (known : Known) (store : LaidStore) (places : List ℕ) → laid c most [] ≡ Ok (store, places)
-    → IsKnown known store places → IsMended s c most → Rolling SetLinks most known 0 c s
+    → IsKnown known store places → AreSettled s c most → Rolling SetLinks most known 0 c s
 links_begin c s most known store places e is mended =
     let stands : Stands most store places c s =
     record {
@@ -205,7 +205,7 @@ pub record Found {D : Type 0} (b : Ghosts D) (settled : D → ℕ → Type 0) (o
   pub begins : Rolling SetLinks (b.size old) known 0 (b.content mid) (settled mid)
 
 pub found_from : {D : Type 0} (b : Ghosts D) (settled : D → ℕ → Type 0) (old mid : D) (known : Known) → SameContents (b.content old) (b.content mid)
-    → ((n : ℕ) → settled old n → settled mid n) → b.size mid ≡ b.size old → IsMended (settled old) (b.content old) (b.size old)
+    → ((n : ℕ) → settled old n → settled mid n) → b.size mid ≡ b.size old → AreSettled (settled old) (b.content old) (b.size old)
     → {r : Result Known OpenRefused} → r ≡ Ok known → Knows r (laid (b.content old) (b.size old) []) → Found b settled old mid known
 found_from b settled old mid known contents kept size mended was knows =
     let k : Knows (Ok known) (laid (b.content old) (b.size old) []) =
@@ -235,7 +235,7 @@ beside b settled old mid known at f g same n none =
 
 -- a store that a crash may leave where blocks are settled stands for the same files
 pub left_found : {D : Type 0} (b : Ghosts D) (old mid : D) (known : Known) → Found b b.settled_always old mid known
-    → IsMended (b.settled_always old) (b.content old) (b.size old)
+    → AreSettled (b.settled_always old) (b.content old) (b.size old)
     → ((n : ℕ) (f : Content) → b.settled_always old n → b.may_leave old (b.moment old) f → f n ≡ b.content old n)
     → (f : Content) → b.may_leave old (b.moment old) f → SameFound (b.size old) (b.content old) f
 left_found b old mid known at mended left f may =

@@ -20,7 +20,7 @@ use Rattle.store_model.specs.Laws.{read_of}
 use Rattle.store_model.proofs.PlaceLists.{not_in}
 use Rattle.store_model.proofs.Steps.{Content}
 use Rattle.store_model.proofs.Stores.{Parts, parts_of}
-use Rattle.store_check.specs.Checked.{IsMended}
+use Rattle.store_check.specs.Checked.{AreSettled}
 use Rattle.store_check.specs.Results.{Outcome}
 use Rattle.recovery.specs.declared.opened.Opened.{Opened}
 use Rattle.recovery.specs.declared.opened.OpenedOver.{OpenedOver}
@@ -104,8 +104,8 @@ module _ {V : Type 0} (v : Device V) where
       subst (λ (l : List ℕ). IsSettled n (let y : Halves = record { a = x.a; b = l } in y)) (sym (rest B x.b left.1))
       (subst (λ (l : List ℕ). IsSettled n (let y : Halves = record { a = l; b = v.seen d B } in y)) (sym (rest A x.a left.0)) s)
 
-  pub mended_always : (d : V) → AtRest v d → IsMended (λ n. IsSettled n (halves_seen v.seen d)) (contents v d) (v.size d)
-      → IsMended (λ n. IsSettledAlways v.may_leave d (v.moment d) n) (contents v d) (v.size d)
+  pub mended_always : (d : V) → AtRest v d → AreSettled (λ n. IsSettled n (halves_seen v.seen d)) (contents v d) (v.size d)
+      → AreSettled (λ n. IsSettledAlways v.may_leave d (v.moment d) n) (contents v d) (v.size d)
   mended_always d rest m = record {
     table = at_rest_always d rest 0 m.table;
     others = λ bytes root here reads n low in_size. at_rest_always d rest n (m.others bytes root here reads n low in_size);

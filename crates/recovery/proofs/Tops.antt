@@ -22,7 +22,7 @@ use Rattle.store_model.proofs.Edits.{some_is, none_some, changed_same, changed_l
 use Rattle.store_model.proofs.PageBytes.{rewrites_members}
 use Rattle.store_model.proofs.Clearing.{top_kept, clearing_keeps}
 use Rattle.store_model.proofs.LastLinks.{linked_after, cleared_keeps}
-use Rattle.store_check.specs.declared.chain.Chain.{Chain}
+use Rattle.store_check.specs.declared.chain.FoundFile.{FoundFile}
 use Rattle.store_check.specs.declared.version.FoundVersion.{FoundVersion}
 use Rattle.store_check.specs.Versions.{shown_of}
 use Rattle.store_check.specs.Files.{chain_of}
@@ -86,7 +86,7 @@ some_names v some = of (length v.members) some
     of zero h = absurd (h refl)
     of (suc n) h = Prim.grind (arith, nat_tests)
 
-pub top_at : (store : LaidStore) (k : ℕ) (file : LaidFile) (chain : Chain) → slice_get store.files k ≡ Some file
+pub top_at : (store : LaidStore) (k : ℕ) (file : LaidFile) (chain : FoundFile) → slice_get store.files k ≡ Some file
     → option_map shown_of (last_laid file.versions) ≡ Some chain.last → (length chain.last.members ≡ 0 → ⊥) → TopAt store k chain.last.block
 top_at store k file chain listed shown some = of (last_laid file.versions) refl shown
   where
@@ -111,21 +111,21 @@ top_at store k file chain listed shown some = of (last_laid file.versions) refl 
 
 module _ (most : ℕ) (known : Known) (k : ℕ) (c : Content) (s : ℕ → Type 0) (r : Rolling ClearMembers most known k c s) where
   -- the last version of the file that the step comes to is the one that is kept
-  pub last_now : (o : Option Chain) → slice_get known.chains.items k ≡ Some o → (now : LaidFile) → slice_get r.stands.store.files k ≡ Some now
-      → option_map shown_of (last_laid now.versions) ≡ option_map (λ (chain : Chain). chain.last) o
+  pub last_now : (o : Option FoundFile) → slice_get known.chains.items k ≡ Some o → (now : LaidFile) → slice_get r.stands.store.files k ≡ Some now
+      → option_map shown_of (last_laid now.versions) ≡ option_map (λ (chain : FoundFile). chain.last) o
   last_now o kept now listed =
       let m : MapAt (λ (file : LaidFile). chain_of file.versions) r.before.files k o =
       map_at (λ (file : LaidFile). chain_of file.versions) r.before.files k o (ap (λ l. slice_get l k) (sym r.is.chains) ∙ kept) in
       r.ahead k m.item now (omega arith) m.listed listed ∙ chain_shown m.item.versions o m.is
 
   -- a file whose last version names no members
-  pub top_none : (o : Option Chain) → slice_get known.chains.items k ≡ Some o → ((chain : Chain) → o ≡ Some chain → length chain.last.members ≡ 0)
+  pub top_none : (o : Option FoundFile) → slice_get known.chains.items k ≡ Some o → ((chain : FoundFile) → o ≡ Some chain → length chain.last.members ≡ 0)
       → (now : LaidFile) → slice_get r.stands.store.files k ≡ Some now → NamesNone now
   top_none o kept none now listed version last =
       of o (sym (ap (option_map shown_of) last) ∙ last_now o kept now listed) none
     where
-      of : (p : Option Chain) → Some (shown_of version) ≡ option_map (λ (chain : Chain). chain.last) p
-          → ((chain : Chain) → p ≡ Some chain → length chain.last.members ≡ 0) → names_none version ≡ true
+      of : (p : Option FoundFile) → Some (shown_of version) ≡ option_map (λ (chain : FoundFile). chain.last) p
+          → ((chain : FoundFile) → p ≡ Some chain → length chain.last.members ≡ 0) → names_none version ≡ true
       of None e nothing = none_some (sym e)
       of (Some chain) e nothing =
           let long : length version.members ≡ 0 = ap (λ (v : FoundVersion). length v.members) (some_is e) ∙ nothing chain refl in
@@ -140,7 +140,7 @@ module _ (most : ℕ) (known : Known) (k : ℕ) (c : Content) (s : ℕ → Type 
   clear_keeps : KeepsHead cleared
   clear_keeps = record { serial = λ v. refl; block = λ v. refl; own = λ v. refl }
 
-  module _ (chain : Chain) (block : ℕ) (kept : slice_get known.chains.items k ≡ Some (Some chain)) (last : chain.last.block ≡ block)
+  module _ (chain : FoundFile) (block : ℕ) (kept : slice_get known.chains.items k ≡ Some (Some chain)) (last : chain.last.block ≡ block)
       (some : length chain.last.members ≡ 0 → ⊥) where
     now_at : FileAt r.stands.store.files k
     now_at =

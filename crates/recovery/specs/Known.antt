@@ -3,7 +3,7 @@ use Rattle.std.specs.Prelude.{◌≡◌, ◌+◌, ℕ, List, map, length, Option
 use Rattle.block_map.specs.States.{free_count}
 use Rattle.afs_base.specs.declared.head.Head.{Head}
 use Rattle.store_model.specs.Found.{LaidStore}
-use Rattle.store_check.specs.declared.chain.Chain.{Chain}
+use Rattle.store_check.specs.declared.chain.FoundFile.{FoundFile}
 use Rattle.store_check.specs.Checked.{LikeTable}
 use Rattle.store_check.specs.Counts.{parts_in, kept_in}
 use Rattle.store_check.specs.Files.{chains_of}
@@ -17,11 +17,11 @@ use Rattle.recovery.specs.declared.known.Known.{Known}
 use Rattle.recovery.specs.Opening.{heads_of}
 
 -- what a head tells of a chain
-abbrev pub head_from : Chain → Head
+abbrev pub head_from : FoundFile → Head
 head_from chain =
     record { block = chain.last.block; first = chain.first; serial = chain.last.serial; kept = chain.kept }
 
-abbrev pub heads_from : List (Option Chain) → List (Option Head)
+abbrev pub heads_from : List (Option FoundFile) → List (Option Head)
 heads_from chains = map (option_map head_from) chains
 
 -- its table, the map of its blocks, and what is kept of its files

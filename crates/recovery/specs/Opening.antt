@@ -14,7 +14,7 @@ use Rattle.store_model.specs.Laid.{LaidVersion, LaidFile, last_laid}
 use Rattle.store_model.specs.Members.{names_none}
 use Rattle.store_model.specs.Changes.{IsLinked}
 use Rattle.store_model.specs.Found.{LaidStore, laid, found}
-use Rattle.store_check.specs.Checked.{IsMended, LikeTable}
+use Rattle.store_check.specs.Checked.{AreSettled, LikeTable}
 use Rattle.store_check.specs.Files.{first_serial, kept_by}
 use Rattle.store_check.specs.Counts.{parts_in, kept_in}
 use Rattle.store_check.specs.Marks.{Marks}
@@ -24,8 +24,8 @@ use Rattle.pair_store.specs.declared.on_halves.Pair.{Pair}
 use Rattle.pair_store.specs.declared.store.Blocks.{Ghosts}
 use Rattle.pair_store.specs.declared.fault.PairFault.{PairFault}
 use Rattle.pair_store.specs.declared.fault.PairFault.TheVariants.{ReadFault as Unread, WriteFault as Unwritten, BothClosed, BadPage}
-use Rattle.store_check.specs.declared.refused.CheckRefused.{CheckRefused}
-use Rattle.store_check.specs.declared.refused.CheckRefused.TheVariants.{ReadFault as Unchecked, BadStore as BadCheck, Memory as NoMemory}
+use Rattle.store_check.specs.declared.refused.WalkRefused.{WalkRefused}
+use Rattle.store_check.specs.declared.refused.WalkRefused.TheVariants.{ReadFault as Unchecked, BadStore as BadCheck, Memory as NoMemory}
 use Rattle.recovery.specs.declared.opened.Opened.{Opened}
 use Rattle.recovery.specs.declared.opened.OpenedOver.{OpenedOver}
 use Rattle.recovery.specs.declared.opened.Unopened.{Unopened}
@@ -34,7 +34,7 @@ use Rattle.recovery.specs.declared.refused.OpenRefused.{OpenRefused}
 use Rattle.recovery.specs.declared.refused.OpenRefused.TheVariants.{ReadFault, WriteFault, BadStore, Memory}
 
 -- why a store is not opened, where the check refused it, and where a call on a block did
-abbrev pub refused_check : CheckRefused → OpenRefused
+abbrev pub refused_check : WalkRefused → OpenRefused
 refused_check (Unchecked half) = ReadFault half
 refused_check (BadCheck block why) = BadStore block why
 refused_check NoMemory = Memory
@@ -143,10 +143,10 @@ pub record IsFailed (faults faults_after last_after : Half → ℕ) (moment_afte
 -- A store that tells its contents, whose blocks are settled as a check of it needs them; and in
 -- everything that a crash may leave too.
 abbrev pub IsReadable : {D : Type 0} → Ghosts D → D → Type 0
-IsReadable b d = b.tells × IsMended (b.settled d) (b.content d) (b.size d)
+IsReadable b d = b.tells × AreSettled (b.settled d) (b.content d) (b.size d)
 
 abbrev pub IsReadableAlways : {D : Type 0} → Ghosts D → D → Type 0
-IsReadableAlways b d = b.tells × IsMended (b.settled_always d) (b.content d) (b.size d)
+IsReadableAlways b d = b.tells × AreSettled (b.settled_always d) (b.content d) (b.size d)
 
 -- a block that is no place of what is found: no part of the table and no page of a version, or
 -- there is no store

@@ -11,7 +11,7 @@ use Rattle.pair_store.specs.declared.store.Blocks.{Ghosts}
 use Rattle.store_model.specs.Laid.{LaidFile, last_laid}
 use Rattle.store_model.specs.Changes.{IsLinked}
 use Rattle.store_model.specs.Found.{LaidStore, laid}
-use Rattle.store_check.specs.declared.chain.Chain.{Chain}
+use Rattle.store_check.specs.declared.chain.FoundFile.{FoundFile}
 use Rattle.store_check.specs.Counts.{kept_in}
 use Rattle.store_check.specs.Versions.{shown_of}
 use Rattle.recovery.specs.declared.known.Known.{Known}
@@ -86,7 +86,7 @@ pub record Rolling (step : Step) (most : ℕ) (known : Known) (k : ℕ) (content
 -- outstanding, or that of a last version with members
 pub record IsEdited (known : Known) (n : ℕ) : Type 0 where
   pub object : ℕ
-  pub chain : Chain
+  pub chain : FoundFile
   pub listed : slice_get known.chains.items object ≡ Some (Some chain)
   pub named : (chain.unset ≡ Some n) ⊎ ((chain.last.block ≡ n)
       × (length chain.last.members ≡ 0 → ⊥))

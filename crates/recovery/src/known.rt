@@ -2,7 +2,7 @@
 ghost use Rattle.std.specs.Prelude.{◌≡◌, ℕ, ◌<◌, ◌≤◌, List, Option, Some, option_map, length, slice_get, [], IsOk, IsErrOf, IfOk, IfErr};
 ghost use Rattle.drives.specs.declared.device.Half.{Half};
 ghost use Rattle.store_model.specs.Found.{laid};
-ghost use Rattle.store_check.specs.declared.chain.Chain.{Chain};
+ghost use Rattle.store_check.specs.declared.chain.FoundFile.{FoundFile};
 ghost use Rattle.store_check.specs.Since.{OnlyRead};
 ghost use Rattle.afs_base.specs.declared.head.Head.{Head};
 ghost use Rattle.recovery.specs.declared.refused.OpenRefused.{OpenRefused};
@@ -15,7 +15,7 @@ use block_map::BlockMap;
 use page_codec::{Table, Why};
 use pair_store::Blocks;
 use std::alloc::Global;
-use store_check::{Chain, Checked, check};
+use store_check::{Checked, FoundFile, check};
 
 /// A lawful store: its table, which blocks are in use, what is kept of the file of each object
 /// where it is live, and what is told of it.
@@ -23,16 +23,16 @@ use store_check::{Chain, Checked, check};
 pub struct Known {
     pub table: Table,
     pub map: BlockMap,
-    pub chains: Vec<Option<Chain>>,
+    pub chains: Vec<Option<FoundFile>>,
     pub heads: Vec<Option<Head>>,
 }
 
 /// What is told of a file whose last version is in a block of a store of so many blocks. Where
 /// contents are told it is in one.
-fn head_in(chain: &Option<Chain>, blocks: u32) -> Result<Option<Head>, OpenRefused>
+fn head_in(chain: &Option<FoundFile>, blocks: u32) -> Result<Option<Head>, OpenRefused>
     ensures value { IfOk result (λ head. head ≡ option_map head_from chain.now) }
     ensures within { (head : Head) → IfOk result (λ told. told ≡ Some head → head.block < blocks) }
-    ensures fits { ((kept : Chain) → chain.now ≡ Some kept → kept.last.block < blocks)
+    ensures fits { ((kept : FoundFile) → chain.now ≡ Some kept → kept.last.block < blocks)
         → IsOk result }
     ensures only { IfErr result IsNoFault }
 {
@@ -57,11 +57,11 @@ fn head_in(chain: &Option<Chain>, blocks: u32) -> Result<Option<Head>, OpenRefus
 }
 
 /// What is told of the file of object `i`, counted from 0.
-fn head_at(chains: &[Option<Chain>], i: usize, blocks: u32) -> Result<Option<Head>, OpenRefused>
+fn head_at(chains: &[Option<FoundFile>], i: usize, blocks: u32) -> Result<Option<Head>, OpenRefused>
     ensures value { i < length chains.now → IfOk result
         (λ head. slice_get (heads_from chains.now) i ≡ Some head) }
     ensures within { (head : Head) → IfOk result (λ told. told ≡ Some head → head.block < blocks) }
-    ensures fits { ((k : ℕ) (kept : Chain) → slice_get chains.now k ≡ Some (Some kept)
+    ensures fits { ((k : ℕ) (kept : FoundFile) → slice_get chains.now k ≡ Some (Some kept)
         → kept.last.block < blocks) → IsOk result }
     ensures only { IfErr result IsNoFault }
 {
@@ -74,7 +74,7 @@ fn head_at(chains: &[Option<Chain>], i: usize, blocks: u32) -> Result<Option<Hea
 /// What is told of the files of so many objects.
 fn heads_in(
     alloc: Global,
-    chains: &[Option<Chain>],
+    chains: &[Option<FoundFile>],
     count: usize,
     blocks: u32,
 ) -> Result<Vec<Option<Head>>, OpenRefused>
@@ -83,7 +83,7 @@ fn heads_in(
     ensures even { IfOk result (λ heads. length heads.items ≡ count) }
     ensures within { IfOk result (λ heads. (k : ℕ) (head : Head)
         → slice_get heads.items k ≡ Some (Some head) → head.block < blocks) }
-    ensures fits { ((k : ℕ) (kept : Chain) → slice_get chains.now k ≡ Some (Some kept)
+    ensures fits { ((k : ℕ) (kept : FoundFile) → slice_get chains.now k ≡ Some (Some kept)
         → kept.last.block < blocks)
         → IfErr result (λ e. e ≡ OpenRefused.Memory) }
     ensures only { IfErr result IsNoFault }

@@ -8,7 +8,7 @@ use drives::Half;
 use page_codec::Why;
 use pair_store::PairFault;
 use std::alloc::{AllocError, AllocFailed};
-use store_check::CheckRefused;
+use store_check::WalkRefused;
 use thiserror::Error;
 
 /// Why a store was not opened.
@@ -28,14 +28,14 @@ pub enum OpenRefused {
     Memory,
 }
 
-impl From<CheckRefused> for OpenRefused {
+impl From<WalkRefused> for OpenRefused {
     ghost from_gives = { λ refused e. e ≡ refused_check refused };
 
-    fn from(refused: CheckRefused) -> OpenRefused {
+    fn from(refused: WalkRefused) -> OpenRefused {
         match refused {
-            CheckRefused::ReadFault { half } => OpenRefused::ReadFault { half },
-            CheckRefused::BadStore { block, why } => OpenRefused::BadStore { block, why },
-            CheckRefused::Memory => OpenRefused::Memory,
+            WalkRefused::ReadFault { half } => OpenRefused::ReadFault { half },
+            WalkRefused::BadStore { block, why } => OpenRefused::BadStore { block, why },
+            WalkRefused::Memory => OpenRefused::Memory,
         }
     }
 }

@@ -2,7 +2,7 @@
 ghost use Rattle.std.specs.Prelude.{◌≡◌, ℕ, ◌+◌, ◌<◌, List, Option, Some, Err, length, slice_get};
 ghost use Rattle.page_codec.specs.declared.why.Why.TheVariants.{Reference};
 ghost use Rattle.pair_store.specs.Pages.{with_commit, without_members};
-ghost use Rattle.store_check.specs.declared.chain.Chain.{Chain};
+ghost use Rattle.store_check.specs.declared.chain.FoundFile.{FoundFile};
 ghost use Rattle.recovery.specs.declared.known.Known.{Known};
 ghost use Rattle.recovery.specs.declared.refused.OpenRefused.TheVariants.{BadStore};
 ghost use Rattle.recovery.specs.Opening.{called};
@@ -13,7 +13,7 @@ use crate::refused::OpenRefused;
 use afs_base::BlockNo;
 use page_codec::Why;
 use pair_store::{Blocks, PairFault};
-use store_check::Chain;
+use store_check::FoundFile;
 
 /// What rolling forward does with each file: all links are set, and after all of them the members
 /// of each last version are cleared.
@@ -63,7 +63,7 @@ fn clear_members<B: Blocks>(store: &mut B, block: BlockNo) -> Result<(), OpenRef
 /// Sets the link from the version in block `base` to the last one of its file, where both are
 /// blocks of a store.
 fn set_link<B: Blocks>(store: &mut B, base: BlockNo, next: BlockNo) -> Result<(), OpenRefused>
-    ensures { (most : ℕ) (known : Known) (k : ℕ) (chain : Chain)
+    ensures { (most : ℕ) (known : Known) (k : ℕ) (chain : FoundFile)
         → slice_get known.chains.items k ≡ Some (Some chain)
         → chain.unset ≡ Some base → chain.last.block ≡ next
         → Rolls B.Blocks most (IsEdited known) (Rolling Step.SetLinks most known k)
@@ -81,7 +81,7 @@ fn set_link<B: Blocks>(store: &mut B, base: BlockNo, next: BlockNo) -> Result<()
 
 /// Clears the members of the last version of a file, where it is in a block of a store.
 fn clear_last<B: Blocks>(store: &mut B, block: BlockNo) -> Result<(), OpenRefused>
-    ensures { (most : ℕ) (known : Known) (k : ℕ) (chain : Chain)
+    ensures { (most : ℕ) (known : Known) (k : ℕ) (chain : FoundFile)
         → slice_get known.chains.items k ≡ Some (Some chain)
         → chain.last.block ≡ block → (length chain.last.members ≡ 0 → ⊥)
         → Rolls B.Blocks most (IsEdited known) (Rolling Step.ClearMembers most known k)
@@ -96,7 +96,7 @@ fn clear_last<B: Blocks>(store: &mut B, block: BlockNo) -> Result<(), OpenRefuse
 
 /// Takes a step with a file that is live: sets its link where one is outstanding, or clears the
 /// members of its last version where it names any.
-fn roll_live<B: Blocks>(store: &mut B, chain: &Chain, step: Step) -> Result<(), OpenRefused>
+fn roll_live<B: Blocks>(store: &mut B, chain: &FoundFile, step: Step) -> Result<(), OpenRefused>
     ensures { (most : ℕ) (known : Known) (k : ℕ)
         → slice_get known.chains.items k ≡ Some (Some chain.now)
         → Rolls B.Blocks most (IsEdited known) (Rolling step most known k)
@@ -117,7 +117,11 @@ fn roll_live<B: Blocks>(store: &mut B, chain: &Chain, step: Step) -> Result<(), 
 }
 
 /// Takes a step with a file.
-fn roll_file<B: Blocks>(store: &mut B, chain: &Option<Chain>, step: Step) -> Result<(), OpenRefused>
+fn roll_file<B: Blocks>(
+    store: &mut B,
+    chain: &Option<FoundFile>,
+    step: Step,
+) -> Result<(), OpenRefused>
     ensures { (most : ℕ) (known : Known) (k : ℕ) → slice_get known.chains.items k ≡ Some chain.now
         → Rolls B.Blocks most (IsEdited known) (Rolling step most known k)
         (Rolling step most known (k + 1)) result store.old store.new }

@@ -1,7 +1,7 @@
 use Rattle.std.proofs.Common.{◌≡◌, ◌+◌, [], List, Option, Result, Ok, Err, length, sym, ap, subst, ◌∙◌, arith, slice_get}
 use Rattle.store_model.specs.Laid.{LaidFile}
 use Rattle.store_model.specs.Found.{laid}
-use Rattle.store_check.specs.declared.chain.Chain.{Chain}
+use Rattle.store_check.specs.declared.chain.FoundFile.{FoundFile}
 use Rattle.store_check.specs.declared.checking.Checked.{Checked}
 use Rattle.store_check.specs.Checked.{Answers, LikeTable}
 use Rattle.store_check.specs.Files.{chain_of, chains_of}
@@ -9,8 +9,8 @@ use Rattle.store_check.specs.Counts.{parts_in, kept_in}
 use Rattle.store_check.specs.Marks.{Marks}
 use Rattle.store_check.specs.Since.{is_past}
 use Rattle.block_map.specs.States.{free_count}
-use Rattle.store_check.specs.declared.refused.CheckRefused.{CheckRefused}
-use Rattle.store_check.specs.declared.refused.CheckRefused.TheVariants.{ReadFault as Unchecked}
+use Rattle.store_check.specs.declared.refused.WalkRefused.{WalkRefused}
+use Rattle.store_check.specs.declared.refused.WalkRefused.TheVariants.{ReadFault as Unchecked}
 use Rattle.recovery.specs.declared.refused.OpenRefused.{OpenRefused}
 use Rattle.recovery.specs.declared.refused.OpenRefused.TheVariants.{ReadFault}
 use Rattle.recovery.specs.Known.{Knows, heads_from}
@@ -25,7 +25,7 @@ returns-in-Err-heads_in-clause-answer g c = λ readable.
     let b = g.B.Blocks in
     let outcome = laid (b.content c.args.store) (b.size c.args.store) [] in
     let past = is_past g.B.Blocks c.check-store.result.0 in
-    let a : Answers past (Ok c.in-Ok.checked) outcome = subst (λ (r : Result Checked CheckRefused). Answers past r outcome) c.in-Ok.is (c.check-store.ensures.answer readable.0 readable.1) in
+    let a : Answers past (Ok c.in-Ok.checked) outcome = subst (λ (r : Result Checked WalkRefused). Answers past r outcome) c.in-Ok.is (c.check-store.ensures.answer readable.0 readable.1) in
     let few = laid_fits (b.content c.args.store) (b.size c.args.store) a.0 a.1 a.2 in
     let size = c.check-store.ensures.only.size_same in
     let count = c.blocks-blocks.ensures in
@@ -34,7 +34,7 @@ returns-in-Err-heads_in-clause-answer g c = λ readable.
     (sym
     (c.in-Err-heads_in.ensures.fits
     (λ k kept is.
-    let low = chain_low_block (b.content c.args.store) (b.size c.args.store) a.0 a.1 a.2 k kept (ap (λ (l : List (Option Chain)). slice_get l k) (sym chains) ∙ is) in
+    let low = chain_low_block (b.content c.args.store) (b.size c.args.store) a.0 a.1 a.2 k kept (ap (λ (l : List (Option FoundFile)). slice_get l k) (sym chains) ∙ is) in
     Prim.omega (arith, low, few, size, count))))
     tt
 
@@ -43,12 +43,12 @@ returns-in-Ok-heads_in-clause-answer g c = λ readable.
     let b = g.B.Blocks in
     let outcome = laid (b.content c.args.store) (b.size c.args.store) [] in
     let past = is_past g.B.Blocks c.check-store.result.0 in
-    let a : Answers past (Ok c.in-Ok.checked) outcome = subst (λ (r : Result Checked CheckRefused). Answers past r outcome) c.in-Ok.is (c.check-store.ensures.answer readable.0 readable.1) in
+    let a : Answers past (Ok c.in-Ok.checked) outcome = subst (λ (r : Result Checked WalkRefused). Answers past r outcome) c.in-Ok.is (c.check-store.ensures.answer readable.0 readable.1) in
     let k = c.known_of.ensures in
     let chains : c.as_slice.result.now ≡ chains_of a.0.files = c.as_slice.ensures.value ∙ a.3.heads in
     let entries : length c.entries-objects.result.now ≡ length a.0.files =
     ap (λ l. length l) (c.entries-objects.ensures.value ∙ a.3.table.entries) ∙ map_long (λ (file : LaidFile). file.entry) a.0.files in
-    let long : length c.as_slice.result.now ≡ length a.0.files = ap (λ (l : List (Option Chain)). length l) chains ∙ map_long (λ (file : LaidFile). chain_of file.versions) a.0.files in (
+    let long : length c.as_slice.result.now ≡ length a.0.files = ap (λ (l : List (Option FoundFile)). length l) chains ∙ map_long (λ (file : LaidFile). chain_of file.versions) a.0.files in (
       a.0,
       a.1,
       a.2,
@@ -69,7 +69,7 @@ returns-in-Err-clause-answer g c = λ readable.
     let outcome = laid (g.B.Blocks.content c.args.store) (g.B.Blocks.size c.args.store) [] in
     subst (λ (e : OpenRefused). Knows (Err e) outcome) (sym c.from.ensures)
     (refused_knows past c.in-Err.refused outcome
-    (subst (λ (r : Result Checked CheckRefused). Answers past r outcome) c.in-Err.is (c.check-store.ensures.answer readable.0 readable.1)))
+    (subst (λ (r : Result Checked WalkRefused). Answers past r outcome) c.in-Err.is (c.check-store.ensures.answer readable.0 readable.1)))
 
 pub returns-in-Err-clause-unread : goal.returns-in-Err-clause-unread
 returns-in-Err-clause-unread g c = λ h is.
@@ -79,5 +79,5 @@ returns-in-Err-clause-unread g c = λ h is.
     let named : c.in-Err.refused ≡ Unchecked h = check_read c.in-Err.refused h (sym c.from.ensures ∙ err_is c.from.result (ReadFault h) is) in
     let u = c.check-store.ensures.unread h (c.in-Err.is ∙ ap Err named) in
     unread_so b old new h u.0 u.1
-    (λ readable past. subst (λ (r : Result Checked CheckRefused). Answers (is_past b new) r (laid (b.content old) (b.size old) []))
+    (λ readable past. subst (λ (r : Result Checked WalkRefused). Answers (is_past b new) r (laid (b.content old) (b.size old) []))
     (c.in-Err.is ∙ ap Err named) (c.check-store.ensures.answer readable.0 readable.1) past)

@@ -1,5 +1,5 @@
 use Rattle.std.proofs.Common.{◌≡◌, ◌+◌, Some, Ok, length, refl, sym, ap, subst, ◌∙◌, eqb-true, eq-eqb, true≢false}
-use Rattle.store_check.specs.declared.chain.Chain.{Chain}
+use Rattle.store_check.specs.declared.chain.FoundFile.{FoundFile}
 use Rattle.store_model.proofs.Edits.{some_is}
 use Rattle.recovery.specs.declared.rolling.Step.{Step}
 use Rattle.recovery.specs.declared.rolling.Step.TheVariants.{SetLinks, ClearMembers}
@@ -29,7 +29,7 @@ returns-then-is_empty g c = λ most known k kept.
     subst (λ (p : Step). Rolls {T = Unit {0}} g.B.Blocks most (IsEdited known) (Rolling p most known k) (Rolling p most known (k + 1)) (Ok tt) d d) (sym c.in-ClearMembers.is)
     (rolls_stay (g.met.B.Blocks.clock d)
     (λ x s r. skipped ClearMembers most known k x s r
-    (top_none most known k x s r (Some c.args.chain.now) kept (λ chain is. ap (λ (q : Chain). length q.last.members) (sym (some_is is)) ∙ long))))
+    (top_none most known k x s r (Some c.args.chain.now) kept (λ chain is. ap (λ (q : FoundFile). length q.last.members) (sym (some_is is)) ∙ long))))
 
 pub returns-else-is_empty : goal.returns-else-is_empty
 returns-else-is_empty g c = λ most known k kept.
