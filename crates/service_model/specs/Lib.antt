@@ -1,7 +1,11 @@
 pub mod Standing
+pub mod Upkeep
 pub mod Causes
 pub mod Replies
 pub mod Entries
 pub mod Legal
 pub mod Print
 pub mod Order
+pub mod Bound
+pub mod Sound
+pub mod Laws

@@ -1,13 +1,12 @@
+-- What a run prints: each client's answered lines, and then the serials of each live file.
 use Rattle.std.specs.Prelude.{ℕ, ◌+◌, List, [], ◌∷◌, ◌++◌, if◌then◌else◌, codes}
 use Rattle.std.specs.Fmt.{decimal}
-use Rattle.script_text.specs.declared.script.Line.{Line}
-use Rattle.script_text.specs.declared.reply.LineReply.{LineReply}
-use Rattle.script_text.specs.ReplyText.{reply_text, spaced}
 use Rattle.std.specs.List.{flat_map}
+use Rattle.script_text.specs.ReplyText.{reply_text, spaced}
+use Rattle.script_text.specs.declared.reply.LineReply.{LineReply}
+use Rattle.script_text.specs.declared.script.Line.{Line}
 use Rattle.tree_model.specs.States.{File, is_live, serials_of}
 use Rattle.service_model.specs.Standing.{Scripts, Standing, Client}
-
--- What a run prints: each client's answered lines, and then the serials of each live file.
 
 -- one answered line: the client, a point, the line's number, a space, the answer and a line feed
 abbrev pub answer_text : ℕ → ℕ → LineReply → List ℕ
@@ -22,12 +21,15 @@ client_text k (line ∷ lines) (reply ∷ replies) = answer_text k line.number r
 -- those of all clients, the first of which has this number
 abbrev pub clients_text : ℕ → Scripts → List Client → List ℕ
 clients_text k [] clients = []
-clients_text k (lines ∷ scripts) [] = []
-clients_text k (lines ∷ scripts) (c ∷ clients) = client_text k lines c.answers ++ clients_text (k + 1) scripts clients
+clients_text k (script ∷ scripts) [] = []
+clients_text k (script ∷ scripts) (c ∷ clients) = client_text k script.lines c.answers ++ clients_text (k + 1) scripts clients
 
 -- the line of a live file: its object and the serials that are kept
 abbrev pub file_text : ℕ → File → List ℕ
-file_text object file = if is_live file then codes "file " ++ (decimal object ++ (codes ":" ++ (flat_map spaced (serials_of file) ++ 10 ∷ []))) else []
+file_text object file =
+    if is_live file
+    then codes "file " ++ (decimal object ++ (codes ":" ++ (flat_map spaced (serials_of file) ++ 10 ∷ [])))
+    else []
 
 -- the lines of these files, the first of which is this object
 abbrev pub files_text : ℕ → List File → List ℕ
