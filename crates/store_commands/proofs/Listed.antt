@@ -23,7 +23,7 @@ use Rattle.recovery.specs.Opening.{head_of, heads_of}
 use Rattle.tree_listing.specs.TreeText.{tree_text}
 use Rattle.tree_listing.specs.Listing.{AreReadable}
 use Rattle.tree_listing.specs.Results.{AppendsTree, Gives}
-use Rattle.tree_listing.specs.declared.refused.ListingRefused.{ListingRefused}
+use Rattle.store_check.specs.declared.refused.WalkRefused.{WalkRefused}
 use Rattle.afs_base.specs.declared.head.Head.{Head}
 use Rattle.store_commands.specs.Showing.{head_line, head_serials, shown_file, shown_files, version_text}
 use Rattle.store_commands.specs.Shows.{AreObjects, IsHeadOf, IsObject}
@@ -103,7 +103,7 @@ behind : (old mid new line rest : List ℕ) → mid ≡ old ++ line → new ≡ 
 behind old mid new line rest e f = f ∙ ap (λ xs. xs ++ rest) e ∙ append_assoc old line rest
 
 -- the text of some file is appended
-pub lines_live : {X : Type 0} (object : ℕ) (head : Head) (old mid new : List ℕ) (result : Result X ListingRefused) → mid ≡ old ++ head_line object head
+pub lines_live : {X : Type 0} (object : ℕ) (head : Head) (old mid new : List ℕ) (result : Result X WalkRefused) → mid ≡ old ++ head_line object head
     → OnOk result (AppendsTree mid new) → OnOk result ((file : File) × (new ≡ old ++ shown_file object file))
 lines_live object head old mid new (Ok x) line (tree, text) =
     (head_file head tree, behind old mid new (head_line object head) (tree_text tree) line text ∙ ap (λ xs. old ++ xs) (sym (head_shown object head tree)))
@@ -115,12 +115,12 @@ lines_none object old = ((let f : File = record { generation = 0; secret = []; v
 pub shows_none : (object : ℕ) (file : File) (old : List ℕ) → file.versions ≡ [] → old ≡ old ++ shown_file object file
 shows_none object file old e = sym (append-nil old) ∙ ap (λ xs. old ++ xs) (sym (shown_none object file e))
 
-gives_as : {X : Type 0} (P Q : Type 0) (result : Result X ListingRefused) → (P → Q) → Gives P result → Gives Q result
+gives_as : {X : Type 0} (P Q : Type 0) (result : Result X WalkRefused) → (P → Q) → Gives P result → Gives Q result
 gives_as P Q (Ok x) f h = f h
 gives_as P Q (Err e) f h = h
 
 -- the text of this file is appended
-pub shows_live : {X : Type 0} (object : ℕ) (head : Head) (file : File) (settled : ℕ → Type 0) (size : ℕ) (store : Store) (old mid new : List ℕ) (result : Result X ListingRefused)
+pub shows_live : {X : Type 0} (object : ℕ) (head : Head) (file : File) (settled : ℕ → Type 0) (size : ℕ) (store : Store) (old mid new : List ℕ) (result : Result X WalkRefused)
     → mid ≡ old ++ head_line object head → (h : IsHeadOf settled size store head file) → Gives (new ≡ mid ++ tree_text h.version.tree) result → Gives (new ≡ old ++ shown_file object file) result
 shows_live object head file settled size store old mid new result line h gives =
     gives_as (new ≡ mid ++ tree_text h.version.tree) (new ≡ old ++ shown_file object file) result

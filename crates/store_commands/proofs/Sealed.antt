@@ -9,12 +9,13 @@ use Rattle.hex.specs.Hex.{encode_lower}
 use Rattle.caps.specs.Grant.{SealValue, capability_of}
 use Rattle.caps.specs.Tables.{entry_seal, seal_of, seal_when}
 use Rattle.page_codec.specs.Values.{EntryValue, TableValue}
-use Rattle.tree_model.specs.States.{State, File, Version, file_of}
+use Rattle.tree_model.specs.States.{State, File, Version}
+use Rattle.service_model.specs.Standing.{seal_in, seal_of as file_seal}
 use Rattle.store_model.specs.Laid.{LaidFile}
 use Rattle.store_model.specs.Found.{LaidStore, file_in, laid, state_in, version_in}
 use Rattle.store_model.proofs.Lying.{Each}
 use Rattle.store_check.specs.Checked.{LikeTable}
-use Rattle.store_commands.specs.Texts.{cap_text, file_seal, object_seal, sealed_text}
+use Rattle.store_commands.specs.Texts.{cap_text, sealed_text}
 use Rattle.store_commands.proofs.Numbering.{IsNumbered, files_numbered}
 
 -- the entries of a table have the seals of these files
@@ -22,7 +23,7 @@ abbrev pub HasSeals : List EntryValue → List File → Type 0
 HasSeals entries files = map entry_seal entries ≡ map file_seal files
 
 seal_at : (entries : List EntryValue) (files : List File) (k : ℕ) → HasSeals entries files
-    → option_and_then entry_seal (slice_get entries k) ≡ object_seal (slice_get files k)
+    → option_and_then entry_seal (slice_get entries k) ≡ option_and_then file_seal (slice_get files k)
 seal_at entries files k same =
     flat_entry (slice_get entries k) ∙ ap flat (sym (slice_get-map entry_seal entries k) ∙ ap (λ (seals : List (Option SealValue)). slice_get seals k) same ∙ slice_get-map file_seal files k)
     ∙ sym (flat_file (slice_get files k))
@@ -35,14 +36,14 @@ seal_at entries files k same =
     flat_entry None = refl
     flat_entry (Some entry) = refl
 
-    flat_file : (o : Option File) → object_seal o ≡ flat (option_map file_seal o)
+    flat_file : (o : Option File) → option_and_then file_seal o ≡ flat (option_map file_seal o)
     flat_file None = refl
     flat_file (Some file) = refl
 
-pub seals_same : (table : TableValue) (state : State) (object : ℕ) → HasSeals table.entries state.files → seal_of table object ≡ object_seal (file_of state object)
+pub seals_same : (table : TableValue) (state : State) (object : ℕ) → HasSeals table.entries state.files → seal_of table object ≡ seal_in state object
 seals_same table state object same = of (object == 0)
   where
-    of : (b : Bool) → cond b None (option_and_then entry_seal (slice_get table.entries (object - 1))) ≡ object_seal (cond b None (slice_get state.files (object - 1)))
+    of : (b : Bool) → cond b None (option_and_then entry_seal (slice_get table.entries (object - 1))) ≡ option_and_then file_seal (cond b None (slice_get state.files (object - 1)))
     of true = refl
     of false = seal_at table.entries state.files (object - 1) same
 

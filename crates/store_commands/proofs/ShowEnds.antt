@@ -16,8 +16,8 @@ use Rattle.recovery.specs.Opening.{IsFailed, SameFound}
 use Rattle.endings.specs.Commands.{CommandEnds}
 use Rattle.endings.specs.declared.status.Status.{Status}
 use Rattle.endings.proofs.Commands.{command_drive, command_finished, command_memory, command_refused, shown_state}
-use Rattle.tree_listing.specs.declared.refused.ListingRefused.{ListingRefused}
-use Rattle.tree_listing.specs.declared.refused.ListingRefused.TheVariants.{ReadFault, BadStore as Unlawful, Memory as NoMemory}
+use Rattle.store_check.specs.declared.refused.WalkRefused.{WalkRefused}
+use Rattle.store_check.specs.declared.refused.WalkRefused.TheVariants.{ReadFault, BadStore as Unlawful, Memory as NoMemory}
 use Rattle.tree_listing.specs.Results.{IsNoCause}
 use Rattle.store_commands.specs.Opening.{OnlyOpened, contents_on}
 use Rattle.store_commands.specs.Showing.{show_text}
@@ -47,7 +47,7 @@ module _ (tells : Type 0) (before : Result State Refused) (failed : Half → Typ
       (λ t. let k = known t in (k.0, k.1, sym (all.those_told k.0.files k.2))))
       all.ends
 
-  not_ends : (status : Status) (why : ListingRefused) → ((files : List File) → told files → IsNoCause why) → ((h : Half) → why ≡ ReadFault h → failed h)
+  not_ends : (status : Status) (why : WalkRefused) → ((files : List File) → told files → IsNoCause why) → ((h : Half) → why ≡ ReadFault h → failed h)
       → UnlistedEnds old new sink_rose why status → CommandEnds tells before failed show_text old new sink_rose status
   not_ends status (ReadFault half) none fault ends = command_drive tells before failed show_text old new sink_rose half status (fault half refl) ends.0 ends.1
   not_ends status (Unlawful block why) none fault ends =

@@ -6,8 +6,8 @@ use Rattle.endings.specs.Printing.{DoneEnds, HaltEnds, Prints}
 use Rattle.endings.specs.Texts.{bad_store_text, drive_text, memory_text}
 use Rattle.endings.specs.declared.status.Status.{Status}
 use Rattle.endings.specs.declared.status.Status.TheVariants.{DriveFault, BadStore, Memory}
-use Rattle.tree_listing.specs.declared.refused.ListingRefused.{ListingRefused}
-use Rattle.tree_listing.specs.declared.refused.ListingRefused.TheVariants.{ReadFault, BadStore as Unlawful, Memory as NoMemory}
+use Rattle.store_check.specs.declared.refused.WalkRefused.{WalkRefused}
+use Rattle.store_check.specs.declared.refused.WalkRefused.TheVariants.{ReadFault, BadStore as Unlawful, Memory as NoMemory}
 use Rattle.tree_listing.specs.Listing.{AreReadable}
 use Rattle.tree_listing.specs.Results.{IsNoCause}
 use Rattle.tree_model.specs.States.{File, Version, last_version, serials_of}
@@ -35,7 +35,7 @@ AreObjects settled size store (head ∷ heads) [] = ⊥
 AreObjects settled size store (head ∷ heads) (file ∷ files) = IsObject settled size store head file × AreObjects settled size store heads files
 
 -- how a command ends whose listing stopped for this cause
-abbrev pub UnlistedEnds : Option (List ℕ) → Option (List ℕ) → Type 0 → ListingRefused → Status → Type 0
+abbrev pub UnlistedEnds : Option (List ℕ) → Option (List ℕ) → Type 0 → WalkRefused → Status → Type 0
 UnlistedEnds old new sink_rose (ReadFault half) status = (status ≡ DriveFault) × Prints old new sink_rose (drive_text half)
 UnlistedEnds old new sink_rose (Unlawful block why) status = HaltEnds old new sink_rose (bad_store_text (record { block = block; why = why })) BadStore status
 UnlistedEnds old new sink_rose NoMemory status = (status ≡ Memory) × Prints old new sink_rose memory_text
@@ -50,7 +50,7 @@ pub record ListsAll (told : List File → Type 0) (old new : Option (List ℕ)) 
 
 -- The listing stopped. Where the files are told it stopped only for want of memory, or at a half that failed in the last call.
 pub record ListsNot (told : List File → Type 0) (stopped unread : Half → Type 0) (old new : Option (List ℕ)) (sink_rose : Type 0) (status : Status) : Type 0 where
-  pub why : ListingRefused
+  pub why : WalkRefused
   pub no_cause : (files : List File) → told files → IsNoCause why
   pub failed : (h : Half) → why ≡ ReadFault h → unread h
   pub failed_last : (h : Half) → why ≡ ReadFault h → (files : List File) → told files → stopped h

@@ -1,11 +1,11 @@
 -- What the commands print of a state.
-use Rattle.std.specs.Prelude.{ℕ, ◌-◌, List, [], ◌∷◌, ◌++◌, length, codes, count_by, sum_by, Option, Some, None, if◌then◌else◌}
+use Rattle.std.specs.Prelude.{ℕ, ◌-◌, List, [], ◌∷◌, ◌++◌, length, codes, count_by, sum_by, Option, Some, None}
 use Rattle.std.specs.Fmt.{decimal}
 use Rattle.std.specs.List.{flat_map, range_with_len}
 use Rattle.hex.specs.Hex.{encode_lower}
 use Rattle.caps.specs.Grant.{SealValue, capability_of}
-use Rattle.service_model.specs.Standing.{kept_blocks}
-use Rattle.tree_model.specs.States.{State, File, file_of, is_live, table_blocks}
+use Rattle.service_model.specs.Standing.{kept_blocks, seal_in}
+use Rattle.tree_model.specs.States.{State, File, is_live, table_blocks}
 
 -- the line of a new file
 abbrev pub new_file_line : ℕ → List ℕ
@@ -40,15 +40,6 @@ counts_text files versions blocks free =
 abbrev pub check_text : State → List ℕ
 check_text state = counts_text (live_count state) (version_count state) (kept_count state) (free_count state)
 
--- what a file's capabilities are sealed with, where the file is live
-abbrev pub file_seal : File → Option SealValue
-file_seal file = if is_live file then Some (record { secret = file.secret; generation = file.generation }) else None
-
--- the same of an object
-abbrev pub object_seal : Option File → Option SealValue
-object_seal None = None
-object_seal (Some file) = file_seal file
-
 -- the line of a capability, where there is a seal
 abbrev pub sealed_text : ℕ → ℕ → Option SealValue → List ℕ
 sealed_text object rights None = codes "denied object" ++ 10 ∷ []
@@ -56,4 +47,4 @@ sealed_text object rights (Some seal) = codes "cap " ++ (encode_lower (capabilit
 
 -- what `cap` prints: the capability of an object with these rights, where the object is live
 abbrev pub cap_text : ℕ → ℕ → State → List ℕ
-cap_text object rights state = sealed_text object rights (object_seal (file_of state object))
+cap_text object rights state = sealed_text object rights (seal_in state object)

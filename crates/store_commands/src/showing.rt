@@ -8,7 +8,7 @@ ghost use Rattle.script_text.specs.ReplyText.{spaced};
 ghost use Rattle.store_model.specs.Laws.{pages_of};
 ghost use Rattle.store_check.specs.Since.{IsUnreadSince, OnlyRead};
 ghost use Rattle.tree_model.specs.States.{File};
-ghost use Rattle.tree_listing.specs.declared.refused.ListingRefused.{ListingRefused};
+ghost use Rattle.store_check.specs.declared.refused.WalkRefused.{WalkRefused};
 ghost use Rattle.tree_listing.specs.Results.{Gives};
 ghost use Rattle.store_commands.specs.Showing.{head_line, head_serials, shown_file, shown_files};
 ghost use Rattle.store_commands.specs.Shows.{AreObjects, IsObject, ShowEnds, UnlistedEnds};
@@ -19,7 +19,8 @@ use pair_store::Blocks;
 use script_text::Sink;
 use std::alloc::{AllocError, Global};
 use std::fmt::Write;
-use tree_listing::{ListingRefused, list_tree};
+use store_check::WalkRefused;
+use tree_listing::list_tree;
 
 /// The serials of the versions that are kept, each after a space.
 fn serials_text(alloc: Global, head: &Head) -> Result<String, AllocError>
@@ -64,7 +65,7 @@ fn append_object<B: Blocks>(
     object: usize,
     head: &Option<Head>,
     text: &mut Vec<u8>,
-) -> Result<(), ListingRefused>
+) -> Result<(), WalkRefused>
     ensures only { OnlyRead B.Blocks store.old store.new }
     ensures lines { OnOk result
         ((file : File) × (text.new.items ≡ text.old.items ++ shown_file object file)) }
@@ -75,10 +76,10 @@ fn append_object<B: Blocks>(
     ensures stopped { B.tells → (file : File)
         → IsObject (B.settled store.old) (B.size store.old) (pages_of (B.content store.old))
         head.now file
-        → (h : Half) → IsErrOf result (ListingRefused.ReadFault h)
+        → (h : Half) → IsErrOf result (WalkRefused.ReadFault h)
         → IsStopped (B.faults store.old) (B.faults store.new) (B.last_fault store.new)
         (B.moment store.new) h }
-    ensures unread { (h : Half) → IsErrOf result (ListingRefused.ReadFault h)
+    ensures unread { (h : Half) → IsErrOf result (WalkRefused.ReadFault h)
         → IsUnreadSince B.Blocks store.old store.new h }
 {
     match head {
@@ -96,7 +97,7 @@ fn append_objects<B: Blocks>(
     store: &mut B,
     heads: &[Option<Head>],
     text: &mut Vec<u8>,
-) -> Result<(), ListingRefused>
+) -> Result<(), WalkRefused>
     ensures only { OnlyRead B.Blocks store.old store.new }
     ensures lines { OnOk result
         ((files : List File) × (text.new.items ≡ text.old.items ++ shown_files 1 files)) }
@@ -107,10 +108,10 @@ fn append_objects<B: Blocks>(
     ensures stopped { B.tells → (files : List File)
         → AreObjects (B.settled store.old) (B.size store.old) (pages_of (B.content store.old))
         heads.now files
-        → (h : Half) → IsErrOf result (ListingRefused.ReadFault h)
+        → (h : Half) → IsErrOf result (WalkRefused.ReadFault h)
         → IsStopped (B.faults store.old) (B.faults store.new) (B.last_fault store.new)
         (B.moment store.new) h }
-    ensures unread { (h : Half) → IsErrOf result (ListingRefused.ReadFault h)
+    ensures unread { (h : Half) → IsErrOf result (WalkRefused.ReadFault h)
         → IsUnreadSince B.Blocks store.old store.new h }
 {
     'objects: for k in 0..heads.len() {
@@ -120,15 +121,15 @@ fn append_objects<B: Blocks>(
 }
 
 /// Ends a command whose listing stopped, for this cause.
-fn end_unlisted<K: Sink>(alloc: Global, out: &mut K, why: ListingRefused) -> Status
+fn end_unlisted<K: Sink>(alloc: Global, out: &mut K, why: WalkRefused) -> Status
     ensures ends { UnlistedEnds (K.written out.old) (K.written out.new)
         (Rose (K.faults out.old) (K.faults out.new)) why result }
     ensures later { K.faults out.old ≤ K.faults out.new }
 {
     match why {
-        ListingRefused::ReadFault { half } => end_drive(out, half),
-        ListingRefused::BadStore { block, why } => end_bad_store(alloc, out, block, why),
-        ListingRefused::Memory => end_memory(out),
+        WalkRefused::ReadFault { half } => end_drive(out, half),
+        WalkRefused::BadStore { block, why } => end_bad_store(alloc, out, block, why),
+        WalkRefused::Memory => end_memory(out),
     }
 }
 

@@ -2,7 +2,7 @@ use Rattle.std.proofs.Common.{◌≡◌, ℕ, Err, sym, ap, ◌∙◌, append-ni
 use Rattle.std.proofs.lemmas.Result.{err_from_is_err_and}
 use Rattle.store_model.specs.Laws.{pages_of}
 use Rattle.store_check.proofs.ReadOnly.{none_read, read_on}
-use Rattle.tree_listing.specs.declared.refused.ListingRefused.{ListingRefused}
+use Rattle.store_check.specs.declared.refused.WalkRefused.{WalkRefused}
 use Rattle.tree_listing.proofs.Moving.{gives_exit, stopped_since, unread_since}
 use Rattle.store_commands.proofs.Listed.{listed_more, listed_none, object_at, object_on, told_end, told_more}
 use Rattle.store_commands.proofs.showing.append_objects.Goals as goal
@@ -43,7 +43,7 @@ returns-in_err-append_object-clause-stopped g c = λ told files are h is.
     let head = c.index-heads-k.result in
     let at = object_at (b.settled s) (b.size s) (pages_of (b.content s)) heads files k head c.index-heads-k.is c.objects-test.true are in
     let p = err_from_is_err_and c.from_residual.result c.from_residual.ensures.1 in
-    let one : c.in_err-append_object.field-0.0 ≡ ListingRefused.ReadFault h = cc in
+    let one : c.in_err-append_object.field-0.0 ≡ WalkRefused.ReadFault h = cc in
     stopped_since b s c.objects.store c.append_object.new.store h c.objects.invariant.only
     (c.in_err-append_object.ensures.stopped told at.file
     (object_on b s c.objects.store c.objects.invariant.only told head at.file at.is)
@@ -53,7 +53,7 @@ pub returns-in_err-append_object-clause-unread : goal.returns-in_err-append_obje
 returns-in_err-append_object-clause-unread g c = λ h is.
     let b = g.B.Blocks in
     let p = err_from_is_err_and c.from_residual.result c.from_residual.ensures.1 in
-    let one : c.in_err-append_object.field-0.0 ≡ ListingRefused.ReadFault h = cc in
+    let one : c.in_err-append_object.field-0.0 ≡ WalkRefused.ReadFault h = cc in
     unread_since b c.args.store.now c.objects.store c.append_object.new.store h
     c.objects.invariant.only (c.in_err-append_object.ensures.unread h (ap Err one))
 
