@@ -1,4 +1,4 @@
-use Rattle.std.proofs.Common.{◌≡◌, inl, inr, ℕ, ◌+◌, ◌≤◌, true, List, [], ◌∷◌, ◌++◌, length, refl, sym, subst, ap, ◌∙◌, Option, Some, None, Result, Ok, Err, IfSome, IsSome, All, arith, true≢false}
+use Rattle.std.proofs.Common.{◌≡◌, inl, inr, ℕ, ◌+◌, ◌≤◌, true, List, [], ◌∷◌, ◌++◌, length, refl, sym, subst, ap, ◌∙◌, Option, Some, None, Result, Ok, Err, IfSome, IsSome, lit≤, All, arith, true≢false}
 use Rattle.std.specs.Io.KnownBytes.{Appends}
 use Rattle.drives.specs.declared.device.Half.{Half}
 use Rattle.drives.specs.Faults.{HasFailed}
@@ -28,7 +28,8 @@ use Rattle.afs_top.specs.Play.{EndsAs, FinishEnds, HasScript, HoldsScript, IsDou
 use Rattle.afs_top.specs.Script.{IsRootStep, IsScript}
 use Rattle.afs_top.specs.Served.{committed_state, root_data, second_state, served_state}
 use Rattle.afs_top.proofs.Forms.{final_is, second_is, served_is}
-use Rattle.afs_top.proofs.Noting.{commit_after, commit_lawful, commit_line, written_after, written_lawful, front_reaches, held_reaches, step_answers-length, stepped_reaches, whole_complete, whole_ordered}
+use Rattle.afs_top.proofs.Noting.{commit_after, commit_lawful, commit_line, written_after, written_lawful, front_reaches, held_reaches, step_answers-length, stepped_reaches, whole_complete}
+use Rattle.afs_top.proofs.Ordered.{run_ordered}
 use Rattle.afs_top.proofs.Kept.{front_keeps}
 use Rattle.afs_top.proofs.Lines.{answers_text, final_text, lines_printed}
 use Rattle.afs_top.proofs.Standings.{final_standing, held_standing, plain_state, stepped_standing}
@@ -50,11 +51,12 @@ run_made : (journal : Journal) (steps : List Step) (at : ℕ) → All IsRootStep
     → journal.entries.items ≡ whole_entries (is_written_by steps) (length steps) at → journal.doubt ≡ None → IsRun journal steps (final_standing steps at)
 run_made journal steps at root few entries sure =
     let R : List Entry → Type 0 = λ es. Reaches served_state (scripts_of steps) es (final_standing steps at) in
-    let O : List Entry → Type 0 = λ es. IsInOrder (order_of steps) es in
+    let O : List Entry → Type 0 = λ es. IsInOrder (scripts_of steps) (start served_state (scripts_of steps)) (order_of steps) es in
+    let S : State → Type 0 = λ o. IsInOrder (scripts_of steps) (start o (scripts_of steps)) (order_of steps) (whole_entries (is_written_by steps) (length steps) at) in
     record {
       reaches = subst R (sym entries) (as_served (scripts_of steps) (whole_entries (is_written_by steps) (length steps) at) (final_standing steps at) (whole_reaches steps at root few));
       complete = whole_complete steps at;
-      ordered = subst O (sym entries) (whole_ordered (is_written_by steps) steps at);
+      ordered = subst O (sym entries) (subst S served_is (run_ordered steps at few));
       sure = sure;
     }
 
@@ -74,7 +76,7 @@ cut_doubt tells before after steps at doubt root written (inl cut) =
     subst D (sym cut.0) tt
 cut_doubt tells before after steps at doubt root written (inr cut) =
     let D : Option Entry → Type 0 = λ d. IsDoubt steps (held_standing steps) d in
-    subst D (sym cut.0) (commit_lawful steps (held_standing steps) (Committed (named 2 ∷ []) at) (commit_line steps) (written_lawful steps at root written), refl)
+    subst D (sym cut.0) (commit_lawful steps (held_standing steps) (Committed (named 2 ∷ []) at) (commit_line steps) (lit≤ tt) (written_lawful steps at root written), refl)
 
 -- the commit in doubt leads to the state that it was to make
 doubted_state : (steps : List Step) (at : ℕ) → All IsRootStep steps → is_written_by steps ≡ true

@@ -3,10 +3,11 @@ use Rattle.std.proofs.Common.{◌≡◌, ℕ, zero, suc, ◌+◌, List, [], ◌�
 use Rattle.std.specs.Option.{option_map_or}
 use Rattle.script_text.specs.declared.script.Line.{Line}
 use Rattle.script_text.specs.declared.command.Command.{Command}
+use Rattle.script_text.specs.declared.script.Mode.{Mode}
 use Rattle.service_model.specs.declared.journal.Entry.{Entry}
 use Rattle.service_model.specs.declared.journal.What.{What}
-use Rattle.service_model.specs.declared.journal.What.TheVariants.{Began, Held, Committed, Answered}
-use Rattle.service_model.specs.Entries.{after_entry, after_entries, after_what}
+use Rattle.service_model.specs.declared.journal.What.TheVariants.{Began, Held, Committed, Refused, GivenUp, Started, Created, Destroyed, Pruned, Answered}
+use Rattle.service_model.specs.Entries.{after_end, after_entry, after_entries, after_what, mode_of}
 use Rattle.service_model.specs.Legal.{Reaches, moment_of}
 use Rattle.service_model.specs.Standing.{Scripts, Standing, next_line, start}
 use Rattle.tree_model.specs.States.{State}
@@ -17,18 +18,25 @@ abbrev AreMomentless : List Entry → Type 0
 AreMomentless [] = Unit {0}
 AreMomentless (e ∷ es) = (moment_of e.what ≡ None) × AreMomentless es
 
-what_keeps : (s : Standing) (k : ℕ) (command : Command) (what : What) → moment_of what ≡ None → (after_what s k command what).state ≡ s.state
-what_keeps s k command (Began bases) none = refl
-what_keeps s k command (Held blocks) none = refl
-what_keeps s k command (Committed made at) none = let both : Some at ≡ None = none in absurd (cc both)
-what_keeps s k command Answered none = refl
+what_keeps : (mode : Mode) (s : Standing) (k : ℕ) (command : Command) (what : What) → moment_of what ≡ None
+    → (after_what mode s k command what).state ≡ s.state
+what_keeps mode s k command (Began bases) none = refl
+what_keeps mode s k command (Held blocks) none = refl
+what_keeps mode s k command (Committed made at) none = let both : Some at ≡ None = none in absurd (cc both)
+what_keeps mode s k command (Refused why) none = refl
+what_keeps mode s k command GivenUp none = refl
+what_keeps mode s k command Started none = refl
+what_keeps mode s k command (Created object at) none = let both : Some at ≡ None = none in absurd (cc both)
+what_keeps mode s k command (Destroyed object blocks at) none = let both : Some at ≡ None = none in absurd (cc both)
+what_keeps mode s k command (Pruned object first blocks at) none = let both : Some at ≡ None = none in absurd (cc both)
+what_keeps mode s k command Answered none = refl
 
 entry_keeps : (sc : Scripts) (s : Standing) (e : Entry) → moment_of e.what ≡ None → (after_entry sc s e).state ≡ s.state
 entry_keeps sc s e none = of (next_line sc s e.client)
   where
-    of : (o : Option Line) → (option_map_or (λ (line : Line). after_what s e.client line.command e.what) o s).state ≡ s.state
+    of : (o : Option Line) → (option_map_or (λ (line : Line). after_what (mode_of sc e.client) s e.client line.command e.what) o (after_end s e.client)).state ≡ s.state
     of None = refl
-    of (Some line) = what_keeps s e.client line.command e.what none
+    of (Some line) = what_keeps (mode_of sc e.client) s e.client line.command e.what none
 
 entries_keep : (sc : Scripts) (s : Standing) (es : List Entry) → AreMomentless es → (after_entries sc s es).state ≡ s.state
 entries_keep sc s [] h = refl

@@ -8,6 +8,7 @@ pub mod Halves
 pub mod Noting
 pub mod Lines
 mod NewTest
+pub mod Ordered
 mod Outside
 mod Placing
 mod Room

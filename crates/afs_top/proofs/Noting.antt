@@ -1,5 +1,5 @@
 -- What one more step adds to the tree, the answers, the writes and the journal of an update.
-use Rattle.std.proofs.Common.{◌≡◌, ℕ, zero, suc, ◌+◌, ◌==◌, ◌≤◌, ◌<◌, Bool, map, subst, Option, Some, None, is_some, lit≤, All, get_or, true, false, not, ◌||◌, List, [], ◌∷◌, ◌++◌, length, refl, sym, ap, ◌∙◌, append_assoc, append-nil, arith, length-append}
+use Rattle.std.proofs.Common.{◌≡◌, ℕ, zero, suc, ◌+◌, ◌==◌, ◌≤◌, ◌<◌, Bool, map, subst, Option, Some, None, is_some, lit≤, inl, All, get_or, true, false, not, ◌||◌, List, [], ◌∷◌, ◌++◌, length, refl, sym, ap, ◌∙◌, append_assoc, append-nil, arith, length-append}
 use Rattle.std.proofs.lemmas.List.{length-map, map-append}
 use Rattle.std.proofs.lemmas.List.Sums.{sum_by-cons}
 use Rattle.std.proofs.lemmas.List.Folds.{sum_by-replicate}
@@ -9,15 +9,16 @@ use Rattle.service_model.specs.declared.journal.Entry.{Entry}
 use Rattle.service_model.specs.declared.journal.What.{What}
 use Rattle.service_model.specs.declared.journal.What.TheVariants.{Held, Committed, Answered}
 use Rattle.tree_model.specs.declared.step.Step.{Step}
-use Rattle.tree_model.specs.Accesses.{Place, step_writes, all_writes, fresh_of, visible_of}
+use Rattle.tree_model.specs.Accesses.{Place, step_writes, all_writes, fresh_as_top, written_paths}
 use Rattle.tree_model.specs.Trees.{Tree, single, after, tree_after, reply_of, replies_of}
-use Rattle.service_model.specs.Entries.{answered, written_works, next_serial, after_what, after_entry, after_entries}
-use Rattle.service_model.specs.Legal.{IsLawful, IsLawfulWhat, IsCommittable, IsUnclashed, IsLegalFrom, IsComplete, Reaches}
-use Rattle.service_model.specs.Order.{Turn, IsInOrder}
-use Rattle.service_model.specs.Standing.{Scripts, Standing, Client, Work, Made, start, client_of, next_line, kept_blocks, free, has_writes, need}
-use Rattle.script_text.specs.declared.reply.LineReply.TheVariants.{Base, Stepped, Refused}
+use Rattle.service_model.specs.Entries.{answered, after_end, after_what, after_entry, standing_after}
+use Rattle.service_model.specs.Legal.{IsLawful, IsLawfulWhat, IsCommittable, IsUnclashed, IsComplete, Reaches}
+use Rattle.service_model.proofs.Journals.{reaches_front, reaches_next}
+use Rattle.service_model.specs.Standing.{Scripts, Standing, Client, Work, Made, next_line, kept_blocks, free, has_writes, need, renewed_works, serial_of}
+use Rattle.script_text.specs.declared.reply.LineReply.TheVariants.{Base, Stepped}
+use Rattle.script_text.specs.declared.script.Mode.TheVariants.{Numbers}
 use Rattle.tree_model.specs.States.{State}
-use Rattle.std.specs.Prelude.{MatchBool, ◌^◌, slice_get, sum_by, ◌-◌, nat_le, if◌then◌else◌, option_map, option_to_list, IsSome}
+use Rattle.std.specs.Prelude.{MatchBool, ◌^◌, slice_get, sum_by, ◌-◌, nat_le, if◌then◌else◌, option_to_list, IsSome}
 use Rattle.std.specs.Option.{option_map_or}
 use Rattle.script_text.specs.declared.script.Line.{Line}
 use Rattle.script_text.specs.declared.command.Command.{Command}
@@ -25,12 +26,13 @@ use Rattle.script_text.specs.declared.command.Command.TheVariants.{Begin, Do, Co
 use Rattle.script_text.specs.declared.command.FileName.TheVariants.{Number}
 use Rattle.script_text.specs.declared.reply.LineRefusal.{LineRefusal}
 use Rattle.script_text.specs.declared.reply.LineRefusal.TheVariants.{Full}
-use Rattle.service_model.specs.Causes.{cause_of}
-use Rattle.service_model.specs.Replies.{or_else, reply_at}
+use Rattle.tree_model.specs.declared.step.Step.TheVariants.{ReadAt, ListAt, WriteAt, MakeAt, DropAt}
+use Rattle.service_model.specs.Causes.{cause_of, first_cause, rights_cause, when}
+use Rattle.service_model.specs.Replies.{asked_reply, reply_at}
 use Rattle.afs_top.specs.Script.{numbered, update_lines, IsRootStep}
 use Rattle.afs_top.proofs.Standings.{page_tree, new_file, no_files, plain_state}
 use Rattle.afs_top.proofs.RootTree.{root_fresh}
-use Rattle.afs_top.specs.Course.{entry, answered_lines, is_written_by, IsFront, named, commit_entries, step_answers, whole_answers, begun_entries, stepped_entries, held_entries, whole_entries, scripts_of, order_of, turns}
+use Rattle.afs_top.specs.Course.{entry, answered_lines, is_written_by, IsFront, named, commit_entries, step_answers, whole_answers, begun_entries, stepped_entries, held_entries, scripts_of}
 use Rattle.afs_top.proofs.Standings.{client_with, update_with, stepped_standing, held_standing, plain_second, final_standing}
 
 pub tree_after-snoc : (t : Tree) (steps : List Step) (step : Step) → tree_after t (steps ++ step ∷ []) ≡ after (tree_after t steps) step
@@ -65,34 +67,11 @@ answered_lines-snoc n k = ap (answered_lines n) (omega arith) ∙ last_line n k
 
 -- ---- journals in general
 
-pub after_append : (sc : Scripts) (s : Standing) (es fs : List Entry) → after_entries sc s (es ++ fs) ≡ after_entries sc (after_entries sc s es) fs
-after_append sc s [] fs = refl
-after_append sc s (e ∷ es) fs = after_append sc (after_entry sc s e) es fs
-
-pub legal_append : (sc : Scripts) (s : Standing) (es fs : List Entry) → IsLegalFrom sc s es → IsLegalFrom sc (after_entries sc s es) fs → IsLegalFrom sc s (es ++ fs)
-legal_append sc s [] fs h g = g
-legal_append sc s (e ∷ es) fs h g = (h.0, legal_append sc (after_entry sc s e) es fs h.1 g)
-
-pub legal_front : (sc : Scripts) (s : Standing) (es fs : List Entry) → IsLegalFrom sc s (es ++ fs) → IsLegalFrom sc s es
-legal_front sc s [] fs h = tt
-legal_front sc s (e ∷ es) fs h = (h.0, legal_front sc (after_entry sc s e) es fs h.1)
-
--- a journal goes on by a lawful entry
-pub reaches_next : (o : State) (sc : Scripts) (es : List Entry) (s : Standing) (e : Entry) → Reaches o sc es s → IsLawful sc s e → Reaches o sc (es ++ e ∷ []) (after_entry sc s e)
-reaches_next o sc es s e r lawful = record {
-  legal = legal_append sc (start o sc) es (e ∷ [])
-      r.legal (let F : Standing → Type 0 = λ x. IsLegalFrom sc x (e ∷ []) in subst F (sym r.leads) (lawful, tt));
-  leads = after_append sc (start o sc) es (e ∷ []) ∙ ap (λ x. after_entry sc x e) r.leads;
-}
-
 -- a front of what reaches something reaches something
 pub front_reaches : (o : State) (sc : Scripts) (es all : List Entry) (s : Standing) → IsFront es all → Reaches o sc all s → (t : Standing) × Reaches o sc es t
 front_reaches o sc es all s front r = (
-  after_entries sc (start o sc) es,
-  record {
-    legal = legal_front sc (start o sc) es front.0 (let F : List Entry → Type 0 = λ x. IsLegalFrom sc (start o sc) x in subst F (sym front.1) r.legal);
-    leads = refl;
-  },
+  standing_after o sc es,
+  reaches_front o sc es front.0 s (let F : List Entry → Type 0 = λ x. Reaches o sc x s in subst F (sym front.1) r),
 )
 
 -- ---- lengths
@@ -139,25 +118,35 @@ stepped_client steps = client_with (step_answers steps) (Some (update_with steps
 few : (n : ℕ) → n < 128 → nat_le 128 (0 + n) ≡ false
 few n h = grind (arith, nat_tests)
 
-no_cause : (state : State) (done : List Step) (step : Step) → length done < 128 → cause_of state (stepped_client done) (Do step) ≡ None
-no_cause state done step h = ap (λ b. if b then Some Full else None) (few (length done) h)
+-- a number gives the rights to every step
+rights_all : (done : List Step) (step : Step) → rights_cause step (update_with done) ≡ None
+rights_all done (ReadAt p) = refl
+rights_all done (ListAt p) = refl
+rights_all done (WriteAt p bytes) = refl
+rights_all done (MakeAt c) = refl
+rights_all done (DropAt c) = refl
+
+no_cause : (done : List Step) (step : Step) → length done < 128 → cause_of (stepped_standing done) 1 (Do step) ≡ None
+no_cause done step h =
+    ap (λ (r : Option LineRefusal). first_cause (None ∷ r ∷ when (nat_le 128 (0 + length done)) Full ∷ [])) (rights_all done step)
+    ∙ ap (λ b. first_cause (None ∷ None ∷ when b Full ∷ [])) (few (length done) h)
 
 pub answers_more : (done : List Step) (step : Step) → step_answers done ++ Stepped (reply_of (tree_after single done) step) ∷ [] ≡ step_answers (done ++ step ∷ [])
 answers_more done step = sym (ap (λ rs. Base (1 ∷ []) ∷ map Stepped rs) (replies_of-snoc single done step)
     ∙ ap (λ rs. Base (1 ∷ []) ∷ rs) (map-append Stepped (replies_of single done) _))
 
 -- the client once its step is answered
-answered_step : (state : State) (done : List Step) (step : Step) → length done < 128
-    → answered state (stepped_client done) (Do step) ≡ stepped_client (done ++ step ∷ [])
-answered_step state done step h =
+answered_step : (done : List Step) (step : Step) → length done < 128
+    → answered Numbers (stepped_standing done) 1 (Do step) (stepped_client done) ≡ stepped_client (done ++ step ∷ [])
+answered_step done step h =
     let F : Option LineRefusal → Client = λ o. client_with
-    (step_answers done ++ option_to_list (or_else (option_map Refused o) (Some (Stepped (reply_of (tree_after single done) step)))))
+    (step_answers done ++ option_to_list (asked_reply o (Some (Stepped (reply_of (tree_after single done) step)))))
     (if is_some o then Some (update_with done) else Some (update_with (done ++ step ∷ []))) 0 [] in
-    ap F (no_cause state done step h) ∙ ap (λ rs. client_with rs (Some (update_with (done ++ step ∷ []))) 0 []) (answers_more done step)
+    ap F (no_cause done step h) ∙ ap (λ rs. client_with rs (Some (update_with (done ++ step ∷ []))) 0 []) (answers_more done step)
 
-reply_told : (state : State) (done : List Step) (step : Step) → length done < 128 → IsSome (reply_at state (stepped_client done) (Do step))
-reply_told state done step h =
-    ap (λ o. is_some (or_else (option_map Refused o) (Some (Stepped (reply_of (tree_after single done) step))))) (no_cause state done step h)
+reply_told : (done : List Step) (step : Step) → length done < 128 → IsSome (reply_at Numbers (stepped_standing done) 1 (Do step))
+reply_told done step h =
+    ap (λ o. is_some (asked_reply o (Some (Stepped (reply_of (tree_after single done) step))))) (no_cause done step h)
 
 -- the next line is that of the next step
 step_line : (done : List Step) (step : Step) (todo : List Step)
@@ -167,19 +156,19 @@ step_line done step todo = line_at 2 _ done step todo (stepped_count done) ∙ a
 step_after : (done : List Step) (step : Step) (todo : List Step) → length done < 128
     → after_entry (scripts_of (done ++ step ∷ todo)) (stepped_standing done) (entry (2 + length done) Answered) ≡ stepped_standing (done ++ step ∷ [])
 step_after done step todo h =
-    ap (λ o. option_map_or (λ (line : Line). after_what (stepped_standing done) 1 line.command Answered) o (stepped_standing done)) (step_line done step todo)
-    ∙ ap (λ c. record { state = plain_state; clients = c ∷ []; made = []; moment = 0 }) (answered_step plain_state done step h)
+    ap (λ o. option_map_or (λ (line : Line). after_what Numbers (stepped_standing done) 1 line.command Answered) o (after_end (stepped_standing done) 1)) (step_line done step todo)
+    ∙ ap (λ c. record { state = plain_state; clients = c ∷ []; made = []; upkeep = None; moment = 0; latest = 1 }) (answered_step done step h)
 
 step_lawful : (done : List Step) (step : Step) (todo : List Step) → length done < 128
     → IsLawful (scripts_of (done ++ step ∷ todo)) (stepped_standing done) (entry (2 + length done) Answered)
 step_lawful done step todo h =
-    (record { number = 2 + length done; command = Do step }, lit≤ tt, step_line done step todo, refl, reply_told plain_state done step h)
+    (lit≤ tt, lit≤ tt, inl (record { number = 2 + length done; command = Do step }, step_line done step todo, refl, reply_told done step h))
 
 pub begun_reaches : (steps : List Step) → Reaches plain_state (scripts_of steps) begun_entries (stepped_standing [])
 begun_reaches steps = record {
   legal = (
-    (record { number = 1; command = Begin (Number 1) }, lit≤ tt, refl, refl, (refl, refl, refl)),
-    ((record { number = 1; command = Begin (Number 1) }, lit≤ tt, refl, refl, refl), tt),
+    (lit≤ tt, lit≤ tt, inl (record { number = 1; command = Begin (Number 1) }, refl, refl, (tt, refl, refl, refl))),
+    ((lit≤ tt, lit≤ tt, inl (record { number = 1; command = Begin (Number 1) }, refl, refl, refl)), tt),
   );
   leads = refl;
 }
@@ -237,12 +226,13 @@ commit_line steps = last_at 2 _ steps (stepped_count steps) ∙ ap (λ k. Some (
 
 -- the entries of that line are lawful and lead as its command says
 pub commit_lawful : (steps : List Step) (s : Standing) (what : What) → next_line (scripts_of steps) s 1 ≡ Some (record { number = 2 + length steps; command = Commit })
-    → IsLawfulWhat s (client_of s 1) Commit what → IsLawful (scripts_of steps) s (entry (length steps + 2) what)
-commit_lawful steps s what line lawful = (record { number = 2 + length steps; command = Commit }, lit≤ tt, line, omega arith, lawful)
+    → 1 ≤ length s.clients → IsLawfulWhat Numbers s 1 Commit what → IsLawful (scripts_of steps) s (entry (length steps + 2) what)
+commit_lawful steps s what line some lawful =
+    (lit≤ tt, some, inl (record { number = 2 + length steps; command = Commit }, line, omega arith, lawful))
 
 pub commit_after : (steps : List Step) (s : Standing) (what : What) → next_line (scripts_of steps) s 1 ≡ Some (record { number = 2 + length steps; command = Commit })
-    → after_entry (scripts_of steps) s (entry (length steps + 2) what) ≡ after_what s 1 Commit what
-commit_after steps s what line = ap (λ o. option_map_or (λ (l : Line). after_what s 1 l.command what) o s) line
+    → after_entry (scripts_of steps) s (entry (length steps + 2) what) ≡ after_what Numbers s 1 Commit what
+commit_after steps s what line = ap (λ o. option_map_or (λ (l : Line). after_what Numbers s 1 l.command what) o (after_end s 1)) line
 
 -- no block of the entries that are left is in use
 no_blocks : (n : ℕ) → sum_by kept_blocks (no_files n) ≡ 0
@@ -253,29 +243,38 @@ used_blocks : sum_by kept_blocks plain_state.files ≡ 2
 used_blocks = sum_by-cons kept_blocks (new_file 1) (new_file 2 ∷ no_files 58) ∙ ap (λ n. 1 + n) (sum_by-cons kept_blocks (new_file 2) (no_files 58)) ∙ ap (λ n. 1 + (1 + n)) (no_blocks 58)
 
 pub free_blocks : (steps : List Step) → free (stepped_standing steps) ≡ 61
-free_blocks steps = ap (λ n. 64 - 1 - n - 0) used_blocks
+free_blocks steps = ap (λ n. 64 - 1 - n - 0 - 0) used_blocks
 
 pub has_writes_is : (steps : List Step) → is_written_by steps ≡ true → has_writes (update_with steps) ≡ true
 has_writes_is steps written = ap (λ b. b || false) written
 
 pub need_is : (steps : List Step) → All IsRootStep steps → is_written_by steps ≡ true → need (update_with steps) ≡ 1
-need_is steps root written = ap (λ b. sum_by (λ (w : Work). length (fresh_of w.base w.steps)) (if b then (record { object = 1; serial = 1; base = page_tree []; steps = steps }) ∷ [] else [])) written
-    ∙ ap (λ (paths : List (List ℕ)). 0 + length paths) (root_fresh steps root written)
+need_is steps root written =
+    ap (λ b. sum_by (λ (w : Work). length (fresh_as_top w.base w.steps)) (if b then (record { object = 1; serial = 1; base = page_tree []; rights = 7; steps = steps }) ∷ [] else [])) written
+    ∙ ap (λ (paths : List (List ℕ)). 0 + length (written_paths paths)) (root_fresh steps root written)
 
 pub held_reaches : (steps : List Step) → All IsRootStep steps → length steps ≤ 128 → is_written_by steps ≡ true
     → Reaches plain_state (scripts_of steps) (held_entries (length steps)) (held_standing steps)
 held_reaches steps root size written =
     reaches_to plain_state (scripts_of steps) (stepped_entries (length steps)) (stepped_standing steps) (held_standing steps) (entry (length steps + 2) (Held 1))
     (stepped_reaches steps size)
-    (commit_lawful steps (stepped_standing steps) (Held 1) (commit_line steps)
-    (refl, refl, (has_writes_is steps written, sym (need_is steps root written)), (let F : ℕ → Type 0 = λ n. 1 ≤ n in subst F (sym (free_blocks steps)) (lit≤ tt))))
+    (commit_lawful steps (stepped_standing steps) (Held 1) (commit_line steps) (lit≤ tt)
+    (inl (
+      refl,
+      record {
+        first = refl;
+        writes = has_writes_is steps written;
+        needed = sym (need_is steps root written);
+        room = (let F : ℕ → Type 0 = λ n. 1 ≤ n in subst F (sym (free_blocks steps)) (lit≤ tt));
+      },
+    )))
     (commit_after steps (stepped_standing steps) (Held 1) (commit_line steps))
 
 -- ---- the whole journal
 
 -- the update's part on file 1
 abbrev pub work_with : List Step → Work
-work_with steps = record { object = 1; serial = 1; base = page_tree []; steps = steps }
+work_with steps = record { object = 1; serial = 1; base = page_tree []; rights = 7; steps = steps }
 
 -- what stands between the commit and its answer
 abbrev pub committed_standing : List Step → List What → ℕ → State → List Made → Standing
@@ -283,62 +282,69 @@ committed_standing steps noted at state made = record {
   state = state;
   clients = client_with (step_answers steps) (Some (update_with steps)) 0 noted ∷ [];
   made = made;
+  upkeep = None;
   moment = at;
+  latest = 1;
 }
 
 -- what is kept of the second version
 abbrev second_made : List Step → List Made
-second_made steps = record { object = 1; serial = 2; visible = visible_of (page_tree []) steps } ∷ []
+second_made steps = record { object = 1; serial = 2; before = page_tree []; steps = steps } ∷ []
 
 abbrev written_notes : ℕ → List What
 written_notes at = Held 1 ∷ Committed (named 2 ∷ []) at ∷ []
 
-written_works_is : (steps : List Step) → is_written_by steps ≡ true → written_works (update_with steps) ≡ work_with steps ∷ []
-written_works_is steps written = ap (λ b. if b then work_with steps ∷ [] else []) written
+renewed_is : (steps : List Step) → is_written_by steps ≡ true → renewed_works (update_with steps) ≡ work_with steps ∷ []
+renewed_is steps written = ap (λ b. if b then work_with steps ∷ [] else []) written
 
-nothing_clashes : (w : Work) → IsUnclashed [] w
+pub nothing_clashes : (w : Work) → IsUnclashed [] w
 nothing_clashes w k d short = absurd (omega arith)
 
-committable : (steps : List Step) → All IsRootStep steps → is_written_by steps ≡ true
-    → IsCommittable (held_standing steps) (client_of (held_standing steps) 1) (update_with steps) (named 2 ∷ [])
-committable steps root written = record {
-  held = ap (λ n. Held n ∷ []) (sym (need_is steps root written));
-  unclashed = λ k d short. nothing_clashes (get_or (written_works (update_with steps)) k d);
-  unworn = let F : List Work → Type 0 = λ ws. All (λ (w : Work). next_serial plain_state w.object < 2 ^ 64) ws in
-      subst F (sym (written_works_is steps written)) one;
-  versions = ap (λ (ws : List Work). map (λ (w : Work). record { object = w.object; serial = next_serial plain_state w.object }) ws) (sym (written_works_is steps written));
-}
+-- a serial is left for the file
+pub unworn_is : (steps : List Step) → is_written_by steps ≡ true → All (λ (w : Work). serial_of plain_state w.object < 2 ^ 64 - 1) (renewed_works (update_with steps))
+unworn_is steps written =
+    let F : List Work → Type 0 = λ ws. All (λ (w : Work). serial_of plain_state w.object < 2 ^ 64 - 1) ws in
+    subst F (sym (renewed_is steps written)) one
   where
-    one : All (λ (w : Work). next_serial plain_state w.object < 2 ^ 64) (work_with steps ∷ [])
+    one : All (λ (w : Work). serial_of plain_state w.object < 2 ^ 64 - 1) (work_with steps ∷ [])
     one zero d short = lit≤ tt
     one (suc k) d short = absurd (omega arith)
 
+committable : (steps : List Step) → All IsRootStep steps → is_written_by steps ≡ true
+    → IsCommittable (held_standing steps) 1 (update_with steps) (named 2 ∷ [])
+committable steps root written = record {
+  held = ap (λ n. Held n ∷ []) (sym (need_is steps root written));
+  unopposed = λ plain k d short. (refl, nothing_clashes (get_or (work_with steps ∷ []) k d));
+  unworn = unworn_is steps written;
+  versions = ap (λ (ws : List Work). map (λ (w : Work). record { object = w.object; serial = serial_of plain_state w.object + 1 }) ws) (sym (renewed_is steps written));
+}
+
 -- and its commit may come next
 pub written_lawful : (steps : List Step) (at : ℕ) → All IsRootStep steps → is_written_by steps ≡ true
-    → IsLawfulWhat (held_standing steps) (client_of (held_standing steps) 1) Commit (Committed (named 2 ∷ []) at)
+    → IsLawfulWhat Numbers (held_standing steps) 1 Commit (Committed (named 2 ∷ []) at)
 written_lawful steps at root written =
-    let F : Bool → Type 0 = λ b. MatchBool b (IsCommittable (held_standing steps) (client_of (held_standing steps) 1) (update_with steps) (named 2 ∷ []))
+    let F : Bool → Type 0 = λ b. MatchBool b (IsCommittable (held_standing steps) 1 (update_with steps) (named 2 ∷ []))
     ((Held 1 ∷ [] ≡ []) × (named 2 ∷ [] ≡ [])) in
     (refl, subst F (sym (has_writes_is steps written)) (committable steps root written), omega arith)
 
 -- the commit makes the second version
 pub written_after : (steps : List Step) (at : ℕ) → All IsRootStep steps → is_written_by steps ≡ true
-    → after_what (held_standing steps) 1 Commit (Committed (named 2 ∷ []) at) ≡ committed_standing steps (written_notes at) at (plain_second steps) (second_made steps)
-written_after steps at root written = rw (written_works_is steps written, root_fresh steps root written) refl
+    → after_what Numbers (held_standing steps) 1 Commit (Committed (named 2 ∷ []) at) ≡ committed_standing steps (written_notes at) at (plain_second steps) (second_made steps)
+written_after steps at root written = rw (renewed_is steps written, root_fresh steps root written) refl
 
 -- and the answer ends the update
 written_answer : (steps : List Step) (at : ℕ)
-    → after_what (committed_standing steps (written_notes at) at (plain_second steps) (second_made steps)) 1 Commit Answered
-    ≡ record { state = plain_second steps; clients = client_with (whole_answers true steps) None 0 [] ∷ []; made = second_made steps; moment = at }
+    → after_what Numbers (committed_standing steps (written_notes at) at (plain_second steps) (second_made steps)) 1 Commit Answered
+    ≡ record { state = plain_second steps; clients = client_with (whole_answers true steps) None 0 [] ∷ []; made = second_made steps; upkeep = None; moment = at; latest = 1 }
 written_answer steps at = refl
 
 -- the whole journal of an update that wrote
 pub written_reaches : (steps : List Step) (at : ℕ) → All IsRootStep steps → length steps ≤ 128 → is_written_by steps ≡ true
     → Reaches plain_state (scripts_of steps) (held_entries (length steps) ++ commit_entries (length steps + 2) at)
-    (record { state = plain_second steps; clients = client_with (whole_answers true steps) None 0 [] ∷ []; made = second_made steps; moment = at })
+    (record { state = plain_second steps; clients = client_with (whole_answers true steps) None 0 [] ∷ []; made = second_made steps; upkeep = None; moment = at; latest = 1 })
 written_reaches steps at root size written =
     let made = committed_standing steps (written_notes at) at (plain_second steps) (second_made steps) in
-    let end : Standing = record { state = plain_second steps; clients = client_with (whole_answers true steps) None 0 [] ∷ []; made = second_made steps; moment = at } in
+    let end : Standing = record { state = plain_second steps; clients = client_with (whole_answers true steps) None 0 [] ∷ []; made = second_made steps; upkeep = None; moment = at; latest = 1 } in
     let es = held_entries (length steps) in
     let commit = entry (length steps + 2) (Committed (named 2 ∷ []) at) in
     let F : List Entry → Type 0 = λ x. Reaches plain_state (scripts_of steps) x end in
@@ -346,9 +352,9 @@ written_reaches steps at root size written =
     (reaches_to plain_state (scripts_of steps) (es ++ commit ∷ []) made end (entry (length steps + 2) Answered)
     (reaches_to plain_state (scripts_of steps) es (held_standing steps) made commit
     (held_reaches steps root size written)
-    (commit_lawful steps (held_standing steps) (Committed (named 2 ∷ []) at) (commit_line steps) (written_lawful steps at root written))
+    (commit_lawful steps (held_standing steps) (Committed (named 2 ∷ []) at) (commit_line steps) (lit≤ tt) (written_lawful steps at root written))
     (commit_after steps (held_standing steps) (Committed (named 2 ∷ []) at) (commit_line steps) ∙ written_after steps at root written))
-    (commit_lawful steps made Answered (commit_line steps) refl)
+    (commit_lawful steps made Answered (commit_line steps) (lit≤ tt) refl)
     (commit_after steps made Answered (commit_line steps) ∙ written_answer steps at))
 
 -- ---- the end
@@ -366,31 +372,3 @@ update_lines-length steps =
 
 pub whole_complete : (steps : List Step) (at : ℕ) → IsComplete (scripts_of steps) (final_standing steps at)
 whole_complete steps at = (whole_answers-length (is_written_by steps) steps ∙ sym (update_lines-length steps), refl, tt)
-
--- lines that are answered in a row are in order
-lines_ordered : (n k : ℕ) (rest : List Turn) (es : List Entry) → IsInOrder rest es → IsInOrder (turns n k ++ rest) (answered_lines n k ++ es)
-unfolding turns answered_lines
-lines_ordered n zero rest es h = h
-lines_ordered n (suc k) rest es h = (refl, refl, lines_ordered (n + 1) k rest es h)
-
--- the last turn
-turns-last : (n k : ℕ) → turns n (suc k) ≡ turns n k ++ (1, n + k) ∷ []
-unfolding turns
-turns-last n zero = ap (λ m. (1, m) ∷ []) (omega arith)
-turns-last n (suc k) = ap (λ ts. (1, n) ∷ ts) (turns-last (n + 1) k ∙ ap (λ m. turns (n + 1) k ++ (1, m) ∷ []) (omega arith))
-
-turns_are : (k : ℕ) → turns 1 (k + 2) ≡ (1, 1) ∷ (turns 2 k ++ (1, k + 2) ∷ [])
-unfolding turns
-turns_are k =
-    let more : k + 2 ≡ suc (suc k) = omega arith in
-    ap (turns 1) more ∙ ap (λ ts. (1, 1) ∷ ts) (turns-last 2 k ∙ ap (λ m. turns 2 k ++ (1, m) ∷ []) (omega arith))
-
-entries_ordered : (k : ℕ) (es : List Entry) → IsInOrder ((1, k + 2) ∷ []) es → IsInOrder (turns 1 (k + 2)) (stepped_entries k ++ es)
-entries_ordered k es h =
-    let F : List Turn → Type 0 = λ ts. IsInOrder ts (stepped_entries k ++ es) in
-    subst F (sym (turns_are k)) (refl, refl, (refl, refl, lines_ordered 2 k ((1, k + 2) ∷ []) es h))
-
--- the lines are answered in their order
-pub whole_ordered : (written : Bool) (steps : List Step) (at : ℕ) → IsInOrder (order_of steps) (whole_entries written (length steps) at)
-whole_ordered true steps at = entries_ordered (length steps) _ (refl, refl, (refl, refl, (refl, refl, refl)))
-whole_ordered false steps at = entries_ordered (length steps) _ (refl, refl, (refl, refl, refl))

@@ -1,5 +1,5 @@
 -- What stands in the run of one update, over the state of the new store written out.
-use Rattle.std.proofs.Common.{ℕ, List, [], ◌∷◌, Option, Some, None, replicate, if◌then◌else◌}
+use Rattle.std.proofs.Common.{ℕ, List, [], ◌∷◌, Option, Some, None, false, replicate, if◌then◌else◌}
 use Rattle.std.specs.FinMap as map
 use Rattle.page_codec.specs.NewStore.{secret_of}
 use Rattle.page_codec.specs.Numbers.{zeros}
@@ -9,7 +9,6 @@ use Rattle.service_model.specs.declared.journal.What.TheVariants.{Held}
 use Rattle.service_model.specs.Standing.{Standing, Client, Update}
 use Rattle.tree_model.specs.States.{State, File, Version}
 use Rattle.tree_model.specs.declared.step.Step.{Step}
-use Rattle.tree_model.specs.Accesses.{visible_of}
 use Rattle.tree_model.specs.Trees.{Tree, tree_after}
 use Rattle.afs_top.specs.Course.{is_written_by, step_answers, whole_answers}
 
@@ -39,15 +38,15 @@ client_with answers update held noted = record { answers = answers; update = upd
 
 -- the update after these steps
 abbrev pub update_with : List Step → Update
-update_with steps = record { works = record { object = 1; serial = 1; base = page_tree []; steps = steps } ∷ []; picked = 0 }
+update_with steps = record { works = record { object = 1; serial = 1; base = page_tree []; rights = 7; steps = steps } ∷ []; is_super = false; picked = 0 }
 
 -- what stands after these steps
 abbrev pub stepped_standing : List Step → Standing
-stepped_standing steps = record { state = plain_state; clients = client_with (step_answers steps) (Some (update_with steps)) 0 [] ∷ []; made = []; moment = 0 }
+stepped_standing steps = record { state = plain_state; clients = client_with (step_answers steps) (Some (update_with steps)) 0 [] ∷ []; made = []; upkeep = None; moment = 0; latest = 1 }
 
 -- what stands when the block of the commit is held
 abbrev pub held_standing : List Step → Standing
-held_standing steps = record { state = plain_state; clients = client_with (step_answers steps) (Some (update_with steps)) 1 (Held 1 ∷ []) ∷ []; made = []; moment = 0 }
+held_standing steps = record { state = plain_state; clients = client_with (step_answers steps) (Some (update_with steps)) 1 (Held 1 ∷ []) ∷ []; made = []; upkeep = None; moment = 0; latest = 1 }
 
 -- the second version of file 1
 abbrev pub second_of : List Step → Version
@@ -62,6 +61,8 @@ abbrev pub final_standing : List Step → ℕ → Standing
 final_standing steps at = record {
   state = if is_written_by steps then plain_second steps else plain_state;
   clients = client_with (whole_answers (is_written_by steps) steps) None 0 [] ∷ [];
-  made = if is_written_by steps then record { object = 1; serial = 2; visible = visible_of (page_tree []) steps } ∷ [] else [];
+  made = if is_written_by steps then record { object = 1; serial = 2; before = page_tree []; steps = steps } ∷ [] else [];
+  upkeep = None;
   moment = at;
+  latest = 1;
 }

@@ -1,11 +1,12 @@
 use Rattle.std.specs.Prelude.{◌≡◌, ℕ, zero, suc, ◌+◌, Bool, true, not, ◌==◌, List, [], ◌∷◌, ◌++◌, map, length, if◌then◌else◌}
 use Rattle.script_text.specs.declared.reply.LineReply.{LineReply}
+use Rattle.script_text.specs.declared.script.Mode.TheVariants.{Numbers}
 use Rattle.script_text.specs.declared.reply.LineReply.TheVariants.{Base, Committed as CommittedReply, Stepped}
 use Rattle.service_model.specs.declared.journal.Entry.{Entry}
 use Rattle.service_model.specs.declared.journal.What.{What}
 use Rattle.service_model.specs.declared.journal.What.TheVariants.{Began, Held, Committed, Answered}
 use Rattle.service_model.specs.declared.named.Named.{Named}
-use Rattle.service_model.specs.Order.{Turn}
+use Rattle.service_model.specs.Order.{Turn, play_order}
 use Rattle.service_model.specs.Standing.{Scripts}
 use Rattle.tree_model.specs.declared.step.Step.{Step}
 use Rattle.tree_model.specs.Accesses.{all_writes}
@@ -81,13 +82,8 @@ whole_answers written steps = step_answers steps ++ CommittedReply (last_serial 
 
 -- the scripts of a run with this update alone
 abbrev pub scripts_of : List Step → Scripts
-scripts_of steps = update_lines steps ∷ []
+scripts_of steps = record { mode = Numbers; lines = update_lines steps } ∷ []
 
--- so many lines of client 1 from this one on
-unfoldable pub turns : ℕ → ℕ → List Turn
-turns n zero = []
-turns n (suc k) = (1, n) ∷ turns (n + 1) k
-
--- the order in which the lines of such an update are answered
+-- the order in which its lines are answered: no client is named, so the one that is there goes to its end
 abbrev pub order_of : List Step → List Turn
-order_of steps = turns 1 (length steps + 2)
+order_of steps = play_order [] (scripts_of steps)

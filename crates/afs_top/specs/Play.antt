@@ -21,7 +21,7 @@ use Rattle.service_model.specs.Entries.{after_entry}
 use Rattle.service_model.specs.Legal.{Reaches, IsComplete, IsLawful, moment_of}
 use Rattle.service_model.specs.Order.{IsInOrder}
 use Rattle.service_model.specs.Print.{printed, answers_printed}
-use Rattle.service_model.specs.Standing.{Standing}
+use Rattle.service_model.specs.Standing.{Standing, start}
 use Rattle.store_commands.specs.Opening.{AreAtRest, HasStopped, files_on}
 use Rattle.store_model.specs.Walk.{Refused}
 use Rattle.tree_model.specs.declared.step.Step.{Step}
@@ -54,7 +54,7 @@ HasScript left steps = IfSome left (λ all. IsScript all steps)
 pub record IsRun (journal : Journal) (steps : List Step) (s : Standing) : Type 0 where
   pub reaches : Reaches served_state (scripts_of steps) journal.entries.items s
   pub complete : IsComplete (scripts_of steps) s
-  pub ordered : IsInOrder (order_of steps) journal.entries.items
+  pub ordered : IsInOrder (scripts_of steps) (start served_state (scripts_of steps)) (order_of steps) journal.entries.items
   pub sure : journal.doubt ≡ None
 
 -- the store that is served was found before, and the state that stands at the end is found after

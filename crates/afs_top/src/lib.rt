@@ -16,6 +16,6 @@ mod words;
 
 pub use endings::{Ended, Status};
 pub use play::afs_play;
-pub use service_model::{Entry, Journal, Named, Named17, What};
+pub use service_model::{Entry, Journal, Named, Named17, Refusal, What};
 pub use store_commands::{afs_cap, afs_check, afs_format, afs_show};
 pub use words::afs_words;
