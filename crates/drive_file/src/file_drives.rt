@@ -12,7 +12,9 @@ use drives::{Drives, Half};
 use std::fs::{File, Files};
 use thiserror::Error;
 
-/// The file of this half could not be opened; half A is tried first.
+/// The file of this half could not be opened; half A is tried first. So it is where the file is no
+/// file that can be put on the disk, where another process has it as a half, and where both halves
+/// are one file, which half B is then refused for.
 #[derive(Clone, Copy, Debug, Error)]
 #[error("the file of half {half:?} cannot be opened")]
 pub struct NoFile {
@@ -32,23 +34,15 @@ pub struct FileDrives {
 }
 
 impl FileDrives {
-    /// Opens the files of these names. A file that is not there is made, with no bytes.
+    /// Opens the files of these names, which are two files. A file that is not there is made, with
+    /// no bytes. Nothing is pending on them then: what an earlier process left is put on the disk.
     pub fn open<R: Files<File = File>>(rt: &R, a: &str, b: &str) -> Result<FileDrives, NoFile>
         ensures fresh { IfOk result (λ d. (⟦<FileDrives as Drives>⟧.moment d ≡ 0)
             × ((h : Half) → ⟦<FileDrives as Drives>⟧.faults d h ≡ 0)) }
     {
-        let a = FileHalf::open(rt, a).map_err(|_| NoFile { half: Half::A })?;
-        let b = FileHalf::open(rt, b).map_err(|_| NoFile { half: Half::B })?;
+        let a = FileHalf::open(rt, a, None).map_err(|_| NoFile { half: Half::A })?;
+        let b = FileHalf::open(rt, b, Some(a.id())).map_err(|_| NoFile { half: Half::B })?;
         Ok(FileDrives { a, b, time: 0 })
-    }
-
-    fn file(&self, half: Half) -> &FileHalf
-        ensures { result.now ≡ one_of self.now.a self.now.b half }
-    {
-        match half {
-            Half::A => &self.a,
-            Half::B => &self.b,
-        }
     }
 
     // A call of a half has returned; a moment passes, but at the clock's end.
@@ -94,27 +88,30 @@ impl Drives for FileDrives {
     }
 
     fn read(&mut self, half: Half, at: u64, buf: &mut [u8]) -> Result<(), Failed> {
-        let done = match self.time {
-            u64::MAX => Err(Failed),
-            _ => self.file(half).read(at, buf),
+        let done = match (self.time, half) {
+            (u64::MAX, _) => Err(Failed),
+            (_, Half::A) => self.a.read(at, buf),
+            (_, Half::B) => self.b.read(at, buf),
         };
         self.count(half, done);
         done
     }
 
     fn write(&mut self, half: Half, at: u64, bytes: &[u8]) -> Result<(), Failed> {
-        let done = match self.time {
-            u64::MAX => Err(Failed),
-            _ => self.file(half).write(at, bytes),
+        let done = match (self.time, half) {
+            (u64::MAX, _) => Err(Failed),
+            (_, Half::A) => self.a.write(at, bytes),
+            (_, Half::B) => self.b.write(at, bytes),
         };
         self.count(half, done);
         done
     }
 
     fn sync(&mut self, half: Half) -> Result<(), Failed> {
-        let done = match self.time {
-            u64::MAX => Err(Failed),
-            _ => self.file(half).sync(),
+        let done = match (self.time, half) {
+            (u64::MAX, _) => Err(Failed),
+            (_, Half::A) => self.a.sync(),
+            (_, Half::B) => self.b.sync(),
         };
         self.count(half, done);
         done

@@ -1,9 +1,10 @@
 // A script in a file.
-ghost use Rattle.std.specs.Prelude.{◌≡◌, None, IfOk};
+ghost use Rattle.std.specs.Prelude.{◌≡◌, ◌≤◌, None, length, IfOk};
 
 use afs_base::Failed;
 use script_text::Source;
 use std::fs::{File, Files};
+use std::io;
 use std::io::{ErrorKind, Read};
 use thiserror::Error;
 
@@ -31,13 +32,26 @@ impl FileSource {
     }
 }
 
+// Reads some bytes, or none at the file's end; a read that a signal interrupts is tried again.
+fn read_some(file: &mut File, buf: &mut [u8]) -> io::Result<usize>
+    ensures { IfOk result (λ n. n ≤ length buf.new) }
+{
+    for _ in 0..u64::MAX {
+        match file.read(buf) {
+            Err(e) if e.kind() == ErrorKind::Interrupted => {}
+            done => return done,
+        }
+    }
+    Err(io::Error::from(ErrorKind::Interrupted))
+}
+
 impl Source for FileSource {
     ghost left = { λ _. None };
 
     ghost faults = { λ s. s.faults };
 
     fn read(&mut self, buf: &mut [u8]) -> Result<usize, Failed> {
-        match self.file.read(buf) {
+        match read_some(&mut self.file, buf) {
             Ok(n) => Ok(n),
             Err(_) => {
                 self.faults = self.faults.saturating_add(1);

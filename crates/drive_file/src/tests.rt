@@ -5,6 +5,8 @@ use crate::*;
 use drives::{Drives, Half};
 use script_text::Source;
 use std::fs;
+use std::fs::{File, Files};
+use std::os::unix::fs::symlink;
 use std::test::Fail;
 
 fn read_from<V: Drives>(drives: &mut V, half: Half, at: u64) -> [u8; 4]
@@ -33,7 +35,9 @@ fn halves_in_files(rt: HostRuntime) -> Result<(), Fail> {
     assert_eq!(rt; read_from(&mut drives, Half::A, 3), [2, 3, 0, 0]);
     assert_eq!(rt; read_from(&mut drives, Half::B, 1), [0; 4]);
     assert_eq!(rt; drives.now(), 6);
-    // What was written is there for who opens the file again.
+    // While they are open nobody else has these files as halves; afterwards what was written is there.
+    assert!(rt; FileDrives::open(&rt, "half_a", "half_b").is_err());
+    drop(drives);
     let mut again = FileDrives::open(&rt, "half_a", "half_b")
         .ok()
         .ok_or("open again")?;
@@ -53,6 +57,38 @@ fn files_that_cannot_be_opened(rt: HostRuntime) {
         Err(e) => assert!(rt; e.half == Half::A),
     }
     assert!(rt; FileSource::open(&rt, "no_script").is_err());
+}
+
+/// Which half cannot be opened, if one.
+fn refused(rt: &impl Files<File = File>, a: &str, b: &str) -> Option<Half> {
+    match FileDrives::open(rt, a, b) {
+        Ok(_) => None,
+        Err(e) => Some(e.half),
+    }
+}
+
+#[test]
+fn two_halves_are_two_files(rt: HostRuntime) -> Result<(), Fail> {
+    fs::write(&rt, "one", "").ok().ok_or("write")?;
+    fs::hard_link(&rt, "one", "twin").ok().ok_or("hard link")?;
+    symlink(&rt, "one", "link").ok().ok_or("link")?;
+    symlink(&rt, "nowhere", "dangling").ok().ok_or("dangling")?;
+    let table = [
+        ("one", "one", Some(Half::B)),
+        ("one", "./one", Some(Half::B)),
+        ("one", "twin", Some(Half::B)),
+        ("link", "one", Some(Half::B)),
+        ("one", "link", Some(Half::B)),
+        ("one", "other", None),
+        ("one", "dangling", Some(Half::B)),
+        // Nothing can be put on a disk through these.
+        ("/dev/null", "one", Some(Half::A)),
+        ("one", ".", Some(Half::B)),
+    ];
+    for (a, b, expected) in table {
+        assert_eq!(rt; refused(&rt, a, b), expected, "at {a} {b}");
+    }
+    Ok(())
 }
 
 #[test]
