@@ -4,7 +4,7 @@
 ghost use Rattle.std.specs.Prelude.{◌≤◌, ◌+◌, length};
 
 use afs_top::{Status, afs_words};
-use drive_file::{FileDrives, FileSource, StdSink};
+use drive_file::{FileDrives, FileSource, NULL_FILE, StandardFiles, StdSink};
 use drives::Half;
 use std::alloc::{AllocError, AllocFailed, Global};
 use std::env::{self, Env};
@@ -150,6 +150,11 @@ fn refuse(rt: &impl Print, refusal: &Refusal) -> u8 {
 
 fn main(rt: HostRuntime) -> ExitCode {
     let alloc = rt.alloc();
+    // Before any other file is opened, and kept until the end.
+    let _standard = match StandardFiles::hold(&rt) {
+        Ok(held) => held,
+        Err(_) => return ExitCode::from(refuse(&rt, &Refusal::CannotOpen(NULL_FILE))),
+    };
     let words = match read_words(&rt, alloc) {
         Ok(words) => words,
         Err(refusal) => return ExitCode::from(refuse(&rt, &refusal)),

@@ -1,7 +1,7 @@
 //! The program's words, and files of any length.
 ghost use Rattle.std.specs.Prelude.{◌≡◌, IfOk, vec_len};
 
-use crate::{Invocation, serve};
+use crate::{CANNOT_OPEN, Invocation, serve};
 use afs_top::{Status, afs_words};
 use drive_file::FileDrives;
 use drives::{Drives, Half, Memory, SureDrives};
@@ -54,7 +54,7 @@ fn status_of(
     }
     match serve(rt, alloc, &words) {
         Ok(status) => Ok(status.code()),
-        Err(_) => Ok(8),
+        Err(_) => Ok(CANNOT_OPEN),
     }
 }
 
@@ -90,6 +90,9 @@ fn a_store_stands_in_files_that_end_behind_it(rt: HostRuntime) -> Result<(), Fai
     // The last block of the store is written on half A, and is no place.
     let mut drives = FileDrives::open(&rt, "a", "b").ok().ok_or("open")?;
     assert!(rt; drives.write(Half::A, 4194303, &[7]).is_ok());
+    // While another has the halves, they cannot be opened.
+    assert_eq!(rt; status_of(&rt, alloc, &["show"])?, CANNOT_OPEN);
+    drop(drives);
     assert_eq!(rt; status_of(&rt, alloc, &["show"])?, 0);
     Ok(())
 }
