@@ -40,7 +40,7 @@ convex (s ∷ a) (t ∷ e) (y ∷ x) on le lt = by (nat_cmp s t) refl (convex a 
         i)
     by Greater g rest = never le (ap (λ o. is_le (ordering_then o (path_cmp a e))) g)
 
-prefix_le : (a x : List ℕ) → is_prefix a x ≡ true → is_le (path_cmp a x) ≡ true
+pub prefix_le : (a x : List ℕ) → is_prefix a x ≡ true → is_le (path_cmp a x) ≡ true
 prefix_le [] [] on = refl
 prefix_le [] (y ∷ x) on = refl
 prefix_le (s ∷ a) [] on = never on refl
@@ -58,7 +58,7 @@ le_then_lt a e x le lt = by (path_cmp a e) refl
     by Greater g = never le (ap is_le g)
 
 -- no entry after one that is not below the path is below it
-none_later : (a p : List ℕ) (es : List Entry) → is_le (path_cmp a p) ≡ true → is_prefix a p ≡ false → AllAfter p es → list_any (λ e. is_prefix a e.0 && is_written e.1) es ≡ false
+pub none_later : (a p : List ℕ) (es : List Entry) → is_le (path_cmp a p) ≡ true → is_prefix a p ≡ false → AllAfter p es → list_any (λ e. is_prefix a e.0 && is_written e.1) es ≡ false
 none_later a p [] le off after = refl
 none_later a p (e ∷ es) le off after =
     (λ i. (off_here i && is_written e.1) || none_later a p es le off after.1 i)

@@ -1,5 +1,6 @@
 pub mod Fresh
 pub mod Kept
+pub mod Letting
 pub mod PageFacts
 pub mod SlotFacts
 pub mod Stepping

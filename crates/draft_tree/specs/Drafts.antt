@@ -1,9 +1,10 @@
 -- What a draft gives out of a page, what a walk puts into one, and what every draft keeps.
-use Rattle.std.specs.Prelude.{◌≡◌, ℕ, true, if◌then◌else◌, List, length, Option, Some, None, option_map}
+use Rattle.std.specs.Prelude.{◌≡◌, ℕ, true, if◌then◌else◌, List, [], length, Option, Some, None, option_map}
 use Rattle.std.specs.Coded.{Π_prop, coded_ℕ, Coded-set}
 use Rattle.page_codec.specs.Values.{PageValue}
 use Rattle.page_places.specs.Places.{same}
 use Rattle.draft_model.specs.Views.{Copied, View, PageCopy}
+use Rattle.draft_model.specs.Told.{is_accessed}
 
 -- the page that is live at a path, or none
 abbrev pub live_page : Option PageCopy → Option PageValue
@@ -28,6 +29,17 @@ merged_page merged c =
 -- what a draft shows after a page was merged at a path
 abbrev pub merged_at : View → List ℕ → PageValue → View
 merged_at d q merged p = if same p q then option_map (merged_page merged) (d p) else d p
+
+-- ---- what stays when the base changes
+
+-- the page, where the update accessed it
+abbrev pub if_accessed : Option Copied → Option Copied
+if_accessed None = None
+if_accessed (Some c) = if is_accessed c then Some c else None
+
+-- `/` and the pages that the update accessed; a page that was copied and never accessed is let go
+abbrev pub accessed_pages : View → View
+accessed_pages d p = if same p [] then d p else if_accessed (d p)
 
 -- ---- what every draft keeps
 

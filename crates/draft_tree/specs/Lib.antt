@@ -1,3 +1,4 @@
 pub mod Drafts
+pub mod Looking
 pub mod Marking
 pub mod Pages

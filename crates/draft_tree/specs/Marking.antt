@@ -2,10 +2,20 @@
 use Rattle.std.specs.Prelude.{◌≡◌, ℕ, ◌^◌, false, not, ◌&&◌, ◌||◌, if◌then◌else◌, List, slice_set}
 use Rattle.std.specs.Int.RustNames.{bit_or}
 use Rattle.page_codec.specs.Blank.{empty_reference}
+use Rattle.page_codec.specs.Values.{PageValue}
 use Rattle.draft_model.specs.Views.{Copied}
 use Rattle.draft_tree.specs.Drafts.{merged_page}
+use Rattle.draft_tree.specs.declared.marks.Marks.{Marks}
 use Rattle.draft_tree.specs.declared.change.Change.{Change}
 use Rattle.draft_tree.specs.declared.change.Change.TheVariants.{Search, SearchAll, Read, Write, MakeChild, DropChild, Merge}
+
+-- a page with its marks
+abbrev pub copied_with : Marks → PageValue → Copied
+copied_with m page = record { live = m.live; read = m.read; written = m.written; searched = m.searched; page = page }
+
+-- a page that took over the slots and the data of a merged one
+abbrev pub merged_with : PageValue → PageValue → PageValue
+merged_with merged page = record { level = page.level; modified = page.modified; refs = merged.refs; bytes = merged.bytes }
 
 -- these slots were read, if the page is there
 abbrev pub searched_more : ℕ → Copied → Copied

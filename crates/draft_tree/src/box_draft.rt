@@ -8,8 +8,11 @@ ghost use Rattle.draft_model.specs.Entries.{shown, fresh_paths};
 use crate::change::Change;
 use crate::copied_page::CopiedPage;
 use crate::draft::{Draft, MAX_FRESH};
+use crate::page_list::PageList;
 use crate::pages::Pages;
+use crate::queries::{flags, live_page, slots};
 use crate::slot_marks::SlotMarks;
+use crate::steps;
 use afs_base::{BlockNo, Memory, Path};
 use arrayvec::ArrayVec;
 use page_codec::{Page, VersionPage};
@@ -82,6 +85,10 @@ impl Draft for BoxDraft {
 
     ghost fresh_of = { λ d. fresh_paths d.pages };
 
+    ghost Rest = { Unit {0} };
+
+    ghost rest_of = { λ _. tt };
+
     fn root(&self) -> BlockNo {
         self.root
     }
@@ -118,15 +125,15 @@ impl Draft for BoxDraft {
     }
 
     fn flags(&self, at: &Path) -> Flags {
-        self.pages.flags(at)
+        flags(&self.pages, at)
     }
 
     fn slots(&self, at: &Path) -> SlotMarks {
-        self.pages.slots(at)
+        slots(&self.pages, at)
     }
 
     fn page(&self, at: &Path, into: &mut Page) -> bool {
-        match self.pages.live_page(at) {
+        match live_page(&self.pages, at) {
             Some(page) => {
                 *into = page;
                 true
@@ -136,7 +143,7 @@ impl Draft for BoxDraft {
     }
 
     fn need(&self, step: &Step) -> Option<(Path, BlockNo)> {
-        self.pages.need(&step.end())
+        steps::need(&self.pages, &step.end())
     }
 
     fn feed(&mut self, at: &Path, page: &Page) -> Result<(), Memory> {
@@ -146,7 +153,7 @@ impl Draft for BoxDraft {
     }
 
     fn step(&mut self, step: &Step) -> Result<Reply, Memory> {
-        let reply = self.pages.step(step)?;
+        let reply = steps::step(&mut self.pages, step)?;
         self.count += 1;
         self.fed = 0;
         Ok(reply)
@@ -157,6 +164,7 @@ impl Draft for BoxDraft {
     }
 
     fn rebase(&mut self, root: BlockNo, serial: u64) {
+        self.pages.keep_accessed();
         self.root = root;
         self.serial = serial;
     }

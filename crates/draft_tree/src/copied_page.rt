@@ -1,35 +1,21 @@
-ghost use Rattle.std.specs.Prelude.{◌≡◌, ◌^◌, ◌≤◌, Some, true};
-ghost use Rattle.page_places.specs.Places.{slot_block};
-ghost use Rattle.draft_model.specs.Steps.{blank, data_reply, fed_page};
-ghost use Rattle.draft_model.specs.Told.{flags_of, is_marked};
-ghost use Rattle.draft_model.specs.Views.{copy_of};
-ghost use Rattle.draft_tree.specs.Drafts.{merged_page};
+ghost use Rattle.std.specs.Prelude.{◌≡◌, ◌≤◌, true};
+ghost use Rattle.draft_model.specs.Steps.{blank, fed_page};
 ghost use Rattle.draft_model.specs.Entries.{is_written};
-ghost use Rattle.draft_tree.specs.Marking.{searched_more, searched_all, data_read, data_written, child_made, child_dropped, taken_away, after_change, FitsPage};
+ghost use Rattle.draft_model.specs.Told.{is_accessed};
+ghost use Rattle.draft_tree.specs.Looking.{looked};
+ghost use Rattle.draft_tree.specs.Marking.{taken_away, after_change, FitsPage};
 
 use crate::change::Change;
-use crate::slot_marks::SlotMarks;
-use afs_base::{BlockNo, PageData, Slot};
-use page_codec::{Page, Reference};
-use ref_flags::{Flags, Mark};
+use crate::look::Look;
+use crate::marks::Marks;
+use page_codec::Page;
 use std::marker::Model;
-use tree_model::Reply;
-
-/// Whether some bit of the mask is set.
-fn has_any(mask: u16) -> bool
-    ensures { result ≡ is_marked mask }
-{
-    mask != 0
-}
 
 /// A page that an update copied or made, with its marks. `live` is false once it, or a page above it, was dropped; its marks stay. The
 /// page's mask is that of the slots that the update wrote, `searched` that of the slots that it read.
 #[derive(Clone, Copy, Debug)]
 pub struct CopiedPage {
-    pub live: bool,
-    read: bool,
-    written: bool,
-    searched: u16,
+    pub marks: Marks,
     pub page: Page,
 }
 
@@ -39,20 +25,22 @@ impl Model for CopiedPage {
     ghost Value = { Copied };
 
     ghost view = { λ c. record {
-      live = c.live;
-      read = c.read;
-      written = c.written;
+      live = c.marks.live;
+      read = c.marks.read;
+      written = c.marks.written;
       searched =
-          c.searched;
+          c.marks.searched;
       page = c.page;
     } };
 
     ghost inverse = { λ c. record {
-      live = c.live;
-      read = c.read;
-      written = c.written;
-      searched =
-          c.searched;
+      marks = record {
+        live = c.live;
+        read = c.read;
+        written = c.written;
+        searched =
+            c.searched;
+      };
       page = c.page;
     } };
 }
@@ -65,10 +53,7 @@ impl CopiedPage {
         let mut copy = *page;
         copy.modified = 0;
         CopiedPage {
-            live: true,
-            read: false,
-            written: false,
-            searched: 0,
+            marks: Marks::fed(),
             page: copy,
         }
     }
@@ -83,38 +68,23 @@ impl CopiedPage {
         let mut page = Page::empty(level);
         page.modified = u16::MAX;
         CopiedPage {
-            live: true,
-            read,
-            written: true,
-            searched: u16::MAX,
+            marks: Marks {
+                live: true,
+                read,
+                written: true,
+                searched: u16::MAX,
+            },
             page,
         }
     }
 
-    /// Whether the data was read.
-    pub fn was_read(&self) -> bool
-        ensures { result ≡ self.now.read }
+    /// A look at the page.
+    pub fn look(&self) -> Look<'_>
+        ensures { looked result ≡ self.now }
     {
-        self.read
-    }
-
-    /// The block that a slot names.
-    pub fn block(&self, slot: Slot) -> Option<BlockNo>
-        ensures { result ≡ slot_block self.now.page slot }
-    {
-        let page = &self.page;
-        let reference = page.refs[slot.get() as usize];
-        reference.block
-    }
-
-    /// The answer to a read: the data, or that the page is not there.
-    pub fn data(&self) -> Reply
-        ensures { result ≡ data_reply (Some (copy_of self.now)) }
-    {
-        if self.live {
-            Reply::Bytes(self.page.bytes)
-        } else {
-            Reply::Absent
+        Look {
+            marks: self.marks,
+            page: &self.page,
         }
     }
 
@@ -123,122 +93,27 @@ impl CopiedPage {
         requires { FitsPage change.now self.old }
         ensures { self.new ≡ after_change change.now self.old }
     {
-        match change {
-            Change::Search(slot) => self.search(*slot),
-            Change::SearchAll => self.search_all(),
-            Change::Read => self.read(),
-            Change::Write(bytes) => self.write(bytes),
-            Change::MakeChild(slot) => self.make_child(*slot),
-            Change::DropChild(slot) => self.drop_child(*slot),
-            Change::Merge(page) => self.merge(page),
-        }
-    }
-
-    /// Marks a slot as read, if the page is there.
-    fn search(&mut self, slot: Slot)
-        ensures { self.new ≡ searched_more (2 ^ slot) self.old }
-    {
-        if self.live {
-            self.searched |= 1 << slot.get();
-        }
-    }
-
-    /// Marks every slot as read, if the page is there.
-    fn search_all(&mut self)
-        ensures { self.new ≡ searched_all self.old }
-    {
-        if self.live {
-            self.searched = u16::MAX;
-        }
-    }
-
-    /// Marks the data as read, if the page is there and its data was not written before.
-    fn read(&mut self)
-        ensures { self.new ≡ data_read self.old }
-    {
-        if self.live {
-            self.read |= !self.written;
-        }
-    }
-
-    /// Replaces the data and marks it as written, if the page is there.
-    fn write(&mut self, bytes: &PageData)
-        ensures { self.new ≡ data_written bytes.now self.old }
-    {
-        if self.live {
-            self.written = true;
-            self.page.bytes = *bytes;
-        }
-    }
-
-    /// Marks that a page was made in a slot.
-    fn make_child(&mut self, slot: Slot)
-        ensures { self.new ≡ child_made slot self.old }
-    {
-        self.page.modified |= 1 << slot.get();
-    }
-
-    /// Empties a slot, and marks that its page was dropped.
-    fn drop_child(&mut self, slot: Slot)
-        ensures { self.new ≡ child_dropped slot self.old }
-    {
-        let number = slot.get();
-        self.page.modified |= 1 << number;
-        self.page.refs[number as usize] = Reference::empty();
+        change.apply(&mut self.marks, &mut self.page);
     }
 
     /// Takes the page away, and keeps its marks.
     pub fn take_away(&mut self)
         ensures { self.new ≡ taken_away self.old }
     {
-        self.live = false;
-    }
-
-    /// Takes over the slots and the data of a merged page of the same level.
-    fn merge(&mut self, merged: &Page)
-        requires { self.old.page.level ≡ merged.now.level }
-        ensures { self.new ≡ merged_page merged.now self.old }
-    {
-        let modified = self.page.modified;
-        self.page = *merged;
-        self.page.modified = modified;
+        self.marks.live = false;
     }
 
     /// Whether the data or some slot was written.
     pub fn is_written(&self) -> bool
         ensures { result ≡ is_written self.now }
     {
-        self.written || has_any(self.page.modified)
+        self.look().is_written()
     }
 
-    /// The marks as flags.
-    pub fn flags(&self) -> Flags
-        ensures { result ≡ flags_of (Some self.now) }
+    /// Whether the update read or wrote something of the page.
+    pub fn is_accessed(&self) -> bool
+        ensures { result ≡ is_accessed self.now }
     {
-        let mut flags = Flags::none().see(Mark::Copy);
-        if self.read {
-            flags = flags.see(Mark::Read);
-        }
-        if self.written {
-            flags = flags.see(Mark::Write);
-        }
-        if has_any(self.searched) {
-            flags = flags.see(Mark::Search);
-        }
-        if has_any(self.page.modified) {
-            flags = flags.see(Mark::Modify);
-        }
-        flags
-    }
-
-    /// The slots that were read and written.
-    pub fn slots(&self) -> SlotMarks
-        ensures searched { result.searched ≡ self.now.searched }
-        ensures modified { result.modified ≡ self.now.page.modified }
-    {
-        SlotMarks {
-            searched: self.searched,
-            modified: self.page.modified,
-        }
+        self.look().is_accessed()
     }
 }

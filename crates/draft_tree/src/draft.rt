@@ -1,4 +1,4 @@
-ghost use Rattle.std.specs.Prelude.{◌≡◌, ℕ, ◌+◌, ◌<◌, ◌≤◌, ◌↔◌, List, [], length, slice_get, Some, IsTrue, true, false, IfOk, OnOk, OnErr, MatchOption};
+ghost use Rattle.std.specs.Prelude.{◌≡◌, ℕ, ◌+◌, ◌<◌, ◌≤◌, ◌↔◌, List, [], length, slice_get, Some, IsTrue, true, false, IfOk, IsOk, OnOk, OnErr, MatchOption};
 ghost use Rattle.tree_model.specs.Accesses.{end_of};
 ghost use Rattle.tree_model.specs.Trees.{IsMake};
 ghost use Rattle.draft_model.specs.Views.{View, copies, live, Wants, WantsNone, IsWanted};
@@ -6,7 +6,7 @@ ghost use Rattle.draft_model.specs.Steps.{stepped, reply_in, fed};
 ghost use Rattle.draft_model.specs.Stands.{Runs, Feeds};
 ghost use Rattle.draft_model.specs.Told.{flags_of, searched_of, modified_of, Wrote, AreFresh, TellsFlags, TellsMasks, TellsWrites, TellsFresh};
 ghost use Rattle.draft_tree.specs.declared.draft.TheConstants.{MAX_FRESH};
-ghost use Rattle.draft_tree.specs.Drafts.{live_page, CanMerge, merged_at, HasLevels};
+ghost use Rattle.draft_tree.specs.Drafts.{live_page, CanMerge, merged_at, accessed_pages, HasLevels};
 
 use crate::slot_marks::SlotMarks;
 use afs_base::{BlockNo, Memory, Path};
@@ -47,6 +47,15 @@ pub trait Draft {
 
     /// Whether calls may be made. Of several drafts in one value, one has to be picked first.
     ghost is_ready: { Self → Type 0 } = { λ _. Unit {0} };
+
+    /// What a value keeps beside this draft: other drafts, and the room that they share.
+    ghost Rest: { Type 0 };
+
+    /// No call of this draft changes it.
+    ghost rest_of: { Self → Rest };
+
+    /// Whether `feed` and `step` answer Ok always.
+    ghost never_refuses: { Type 0 } = { ⊥ };
 
     /// The block of the base's version page, never 0.
     fn root(&self) -> BlockNo
@@ -135,10 +144,12 @@ pub trait Draft {
         ensures more { OnOk result (fed_of self.new ≡ fed_of self.old + 1) }
         ensures err { OnErr result
             ((view self.new ≡ view self.old) × (fed_of self.new ≡ fed_of self.old)) }
+        ensures succeeds { never_refuses → IsOk result }
         ensures count { count_of self.new ≡ count_of self.old }
         ensures same { (root_of self.new ≡ root_of self.old)
             × (object_of self.new ≡ object_of self.old)
             × (serial_of self.new ≡ serial_of self.old) }
+        ensures rest { rest_of self.new ≡ rest_of self.old }
         ensures ready { is_ready self.new };
 
     /// Does a step that needs no page, and answers as the tree does. There are at most 128 steps, and before a make at most six pages are
@@ -157,9 +168,11 @@ pub trait Draft {
             × (count_of self.new ≡ count_of self.old)
             × (fed_of self.new ≡ fed_of self.old)) }
         ensures cause { OnErr result (IsMake step.now) }
+        ensures succeeds { never_refuses → IsOk result }
         ensures same { (root_of self.new ≡ root_of self.old)
             × (object_of self.new ≡ object_of self.old)
             × (serial_of self.new ≡ serial_of self.old) }
+        ensures rest { rest_of self.new ≡ rest_of self.old }
         ensures ready { is_ready self.new };
 
     /// Gives the page that is live at a path the slots and the data of a merged page of the same level. Its mask and its marks stay, and so
@@ -173,18 +186,21 @@ pub trait Draft {
         ensures same { (root_of self.new ≡ root_of self.old)
             × (object_of self.new ≡ object_of self.old)
             × (serial_of self.new ≡ serial_of self.old) }
+        ensures rest { rest_of self.new ≡ rest_of self.old }
         ensures ready { is_ready self.new };
 
-    /// From here on the base is the version with this serial whose page lies in block `root`, which is not 0. Nothing else changes.
+    /// From here on the base is the version with this serial whose page lies in block `root`, which is not 0. A page that was copied and
+    /// never accessed is let go: another version may have other data there. Nothing else changes.
     fn rebase(&mut self, root: BlockNo, serial: u64)
         requires ready { is_ready self.old }
         requires named { 0 < root }
         ensures root { root_of self.new ≡ root }
         ensures serial { serial_of self.new ≡ serial }
-        ensures view { view self.new ≡ view self.old }
+        ensures view { view self.new ≡ accessed_pages (view self.old) }
         ensures count { (count_of self.new ≡ count_of self.old)
             × (fed_of self.new ≡ fed_of self.old) }
         ensures object { object_of self.new ≡ object_of self.old }
+        ensures rest { rest_of self.new ≡ rest_of self.old }
         ensures ready { is_ready self.new };
 
     /// The page `/` is live.

@@ -1,32 +1,26 @@
-ghost use Rattle.std.specs.Prelude.{◌≡◌, ℕ, ◌+◌, ◌^◌, ◌<◌, ◌≤◌, ◌↔◌, [], ◌∷◌, ◌++◌, List, length, OnOk, OnErr, IsTrue, IfSome, Some, option_map, slice_get, if◌then◌else◌, true, false};
-ghost use Rattle.std.specs.Option.{option_map_or};
+ghost use Rattle.std.specs.Prelude.{◌≡◌, ℕ, ◌≤◌, ◌↔◌, List, [], length, filter, IsTrue, slice_get, if◌then◌else◌, true};
 ghost use Rattle.std.specs.List.{list_any, take_while, count_by};
 ghost use Rattle.std.specs.List.Sorted.{IsStrictlySortedBy};
 ghost use Rattle.std.specs.Map.{keys_of};
 ghost use Rattle.std.specs.BTreeMap.Range.{entries_between};
 ghost use Rattle.std.specs.declared.ops.Bound.TheVariants.{Included, Unbounded};
-ghost use Rattle.afs_base.specs.Path.{are_slots, is_prefix, path_cmp};
-ghost use Rattle.draft_model.specs.Steps.{data_reply, is_there};
-ghost use Rattle.draft_model.specs.Told.{flags_of, searched_of, modified_of, are_rising, Wrote};
-ghost use Rattle.draft_model.specs.Views.{Copied, copies, live};
-ghost use Rattle.draft_tree.specs.Drafts.{live_page};
-ghost use Rattle.draft_model.specs.Entries.{is_written};
-ghost use Rattle.draft_tree.specs.Marking.{taken_away, after_change, FitsPage};
-ghost use Rattle.draft_model.specs.Entries.{shown, is_touched, is_fresh, fresh_paths};
-ghost use Rattle.draft_tree.specs.Pages.{changed, put, cut_below, wanted_block};
+ghost use Rattle.afs_base.specs.Path.{is_prefix, path_cmp};
+ghost use Rattle.draft_model.specs.Told.{are_rising, Wrote};
+ghost use Rattle.draft_model.specs.Entries.{shown, is_written, is_touched, is_fresh, fresh_paths};
+ghost use Rattle.draft_tree.specs.Drafts.{accessed_pages};
+ghost use Rattle.draft_tree.specs.Marking.{taken_away};
+ghost use Rattle.draft_tree.specs.Pages.{is_kept};
 
 use crate::change::Change;
 use crate::copied_page::CopiedPage;
 use crate::draft::MAX_FRESH;
-use crate::slot_marks::SlotMarks;
-use afs_base::{BlockNo, Memory, Path, Slot};
+use crate::look::Look;
+use crate::page_list::PageList;
+use afs_base::{Memory, Path};
 use arrayvec::ArrayVec;
-use page_codec::Page;
-use ref_flags::Flags;
 use std::alloc::Global;
 use std::collections::BTreeMap;
 use std::marker::Model;
-use tree_model::Reply;
 
 /// Takes the page away where its path is `at` or lies below it. True always.
 fn take_away_below(at: &Path, path: &Path, copied: &mut CopiedPage) -> bool
@@ -38,6 +32,13 @@ fn take_away_below(at: &Path, path: &Path, copied: &mut CopiedPage) -> bool
         copied.take_away();
     }
     true
+}
+
+/// Whether the page stays when the base changes: it is `/`, or the update accessed it.
+fn is_kept(path: &Path, copied: &CopiedPage) -> bool
+    ensures { result ≡ is_kept path.now copied.now }
+{
+    path.is_empty() || copied.is_accessed()
 }
 
 /// The pages that an update copied or made, by their paths. Contracts see the list of the paths and pages, in order of the paths.
@@ -68,146 +69,22 @@ impl Pages {
         }
     }
 
-    /// Whether a page is live at the path.
-    pub fn is_live(&self, at: &Path) -> bool
-        ensures { result ≡ live (copies (shown self.now)) at.now }
+    /// Lets go of the pages that do not stay, and tells what is left entry by entry.
+    fn retain_accessed(&mut self)
+        ensures entries { self.new ≡ filter (λ e. is_kept e.0 e.1) self.old }
+        ensures was_ordered { IsStrictlySortedBy path_cmp (keys_of self.old) }
+        ensures order { are_rising (keys_of self.new) ≡ true }
     {
-        match self.list.get(at) {
-            Some(copied) => copied.live,
-            None => false,
-        }
+        self.list.retain(|path, copied| is_kept(path, copied));
     }
 
-    /// Whether a page is live in a slot of the page at the path.
-    fn is_child_live(&self, above: &Path, slot: Slot) -> bool
-        ensures { result ≡ live (copies (shown self.now)) (above.now ++ slot ∷ []) }
+    /// Lets go of the pages that were copied and never accessed. `/` stays.
+    pub fn keep_accessed(&mut self)
+        ensures view { (p : List ℕ) → shown self.new p ≡ accessed_pages (shown self.old) p }
+        ensures len { length self.new ≤ length self.old }
+        ensures order { are_rising (keys_of self.new) ≡ true }
     {
-        // At seven slots nothing lies below, and the type keeps that no page does.
-        let list = &self.list;
-        match above.child(slot) {
-            Ok(path) => match list.get(&path) {
-                Some(copied) => copied.live,
-                None => false,
-            },
-            Err(_) => false,
-        }
-    }
-
-    /// Whether the update's tree has a page in a slot of the page at the path: one that is live, or one of the base that is not copied.
-    pub fn has_child(&self, above: &Path, slot: Slot) -> bool
-        ensures { result ≡ is_there (copies (shown self.now)) (above.now, slot) }
-    {
-        match self.list.get(above) {
-            Some(copied) => copied.live
-                && (self.is_child_live(above, slot) || copied.block(slot).is_some()),
-            None => false,
-        }
-    }
-
-    /// The block of the base's page in a slot of the page at the path, where that page is live and its child is not copied.
-    pub fn wanted_block(&self, above: &Path, slot: Slot) -> Option<BlockNo>
-        ensures { result ≡ wanted_block (copies (shown self.now)) above.now slot }
-    {
-        match self.list.get(above) {
-            Some(copied) => {
-                if copied.live && !self.is_child_live(above, slot) {
-                    copied.block(slot)
-                } else {
-                    None
-                }
-            }
-            None => None,
-        }
-    }
-
-    /// Whether the data of a page at the path was read.
-    pub fn was_read(&self, at: &Path) -> bool
-        ensures { result ≡ option_map_or (λ c. c.read) (shown self.now at.now) false }
-    {
-        match self.list.get(at) {
-            Some(copied) => copied.was_read(),
-            None => false,
-        }
-    }
-
-    /// The answer to a read of the path.
-    pub fn data(&self, at: &Path) -> Reply
-        ensures { result ≡ data_reply (copies (shown self.now) at.now) }
-    {
-        match self.list.get(at) {
-            Some(copied) => copied.data(),
-            None => Reply::Absent,
-        }
-    }
-
-    /// The marks of the path.
-    pub fn flags(&self, at: &Path) -> Flags
-        ensures { result ≡ flags_of (shown self.now at.now) }
-    {
-        match self.list.get(at) {
-            Some(copied) => copied.flags(),
-            None => Flags::none(),
-        }
-    }
-
-    /// The slots of the page at the path that were read and written.
-    pub fn slots(&self, at: &Path) -> SlotMarks
-        ensures searched { result.searched ≡ searched_of (shown self.now at.now) }
-        ensures modified { result.modified ≡ modified_of (shown self.now at.now) }
-    {
-        match self.list.get(at) {
-            Some(copied) => copied.slots(),
-            None => SlotMarks {
-                searched: 0,
-                modified: 0,
-            },
-        }
-    }
-
-    /// The page that is live at the path.
-    pub fn live_page(&self, at: &Path) -> Option<Page>
-        ensures { result ≡ live_page (copies (shown self.now) at.now) }
-    {
-        match self.list.get(at) {
-            Some(copied) => { if copied.live { Some(copied.page) } else { None } }
-            None => None,
-        }
-    }
-
-    /// Puts a page at the path, in place of the one that stands there. Want of memory changes nothing.
-    pub fn put(&mut self, at: &Path, copied: CopiedPage) -> Result<(), Memory>
-        ensures put { OnOk result
-            ((p : List ℕ) → shown self.new p ≡ put (shown self.old) at.now copied p) }
-        ensures err { OnErr result (self.new ≡ self.old) }
-        ensures len { length self.new ≤ length self.old + 1 }
-        ensures order { OnOk result (are_rising (keys_of self.new) ≡ true) }
-        ensures slots { are_slots at.now ≡ true }
-    {
-        // A path that is looked at is known to have at most seven slots.
-        let _depth = at.len();
-        self.list.insert(*at, copied)?;
-        Ok(())
-    }
-
-    /// Does a change of the page at the path, where one stands there.
-    pub fn change(&mut self, at: &Path, change: &Change)
-        requires { (c : Copied) → shown self.old at.now ≡ Some c → FitsPage change.now c }
-        ensures view { (p : List ℕ) →
-            shown self.new p ≡ changed (shown self.old) at.now (after_change change.now) p }
-        ensures keys { keys_of self.new ≡ keys_of self.old }
-    {
-        if let Some(copied) = self.list.get_mut(at) {
-            copied.change(change);
-        }
-    }
-
-    /// Takes away the pages at and below the path. Their marks stay.
-    pub fn cut_below(&mut self, at: &Path)
-        ensures view { (p : List ℕ) → shown self.new p ≡ cut_below (shown self.old) at.now p }
-        ensures keys { keys_of self.new ≡ keys_of self.old }
-    {
-        self.list
-            .retain(|path, copied| take_away_below(at, path, copied));
+        self.retain_accessed();
     }
 
     /// Whether something was written at or below the path, looking from its place on.
@@ -249,7 +126,7 @@ impl Pages {
     fn is_fresh(&self, at: &Path, copied: &CopiedPage) -> bool
         ensures { result ≡ is_fresh self.now (at.now, copied.now) }
     {
-        copied.live && self.touches(at)
+        copied.marks.live && self.touches(at)
     }
 
     /// How many pages are live and have something written on or below them.
@@ -288,5 +165,42 @@ impl Pages {
             Some((at, _)) => Some(*at),
             None => None,
         }
+    }
+}
+
+impl PageList for Pages {
+    ghost entries = { λ p. p };
+
+    ghost Others = { Unit {0} };
+
+    ghost others = { λ _. tt };
+
+    ghost space = { λ _. 0 };
+
+    ghost never_refuses = { ⊥ };
+
+    fn look(&self, at: &Path) -> Option<Look<'_>> {
+        match self.list.get(at) {
+            Some(copied) => Some(copied.look()),
+            None => None,
+        }
+    }
+
+    fn put(&mut self, at: &Path, copied: CopiedPage) -> Result<(), Memory> {
+        // A path that is looked at is known to have at most seven slots.
+        let _depth = at.len();
+        self.list.insert(*at, copied)?;
+        Ok(())
+    }
+
+    fn change(&mut self, at: &Path, change: &Change) {
+        if let Some(copied) = self.list.get_mut(at) {
+            copied.change(change);
+        }
+    }
+
+    fn cut_below(&mut self, at: &Path) {
+        self.list
+            .retain(|path, copied| take_away_below(at, path, copied));
     }
 }

@@ -12,19 +12,19 @@ pub invariant_of-self-2-clause-top : goal.invariant_of-self-2-clause-top
 invariant_of-self-2-clause-top c =
     let d = shown c.args.self.now.pages in
     let step = c.args.step.now in
-    top_same (stepped d step) (shown c.step.new.self) c.in_ok-reply.ensures.view (top_stepped d step c.args.self.now.top)
+    top_same (stepped d step) (shown c.step.new.pages) c.in_ok-reply.ensures.view (top_stepped d step c.args.self.now.top)
 
 pub invariant_of-self-2-clause-levels : goal.invariant_of-self-2-clause-levels
 invariant_of-self-2-clause-levels c =
     let d = shown c.args.self.now.pages in
     let step = c.args.step.now in
-    levels_same (stepped d step) (shown c.step.new.self) c.in_ok-reply.ensures.view (levels_stepped d step c.args.self.now.levels)
+    levels_same (stepped d step) (shown c.step.new.pages) c.in_ok-reply.ensures.view (levels_stepped d step c.args.self.now.levels)
 
 pub returns-clause-runs : goal.returns-clause-runs
 returns-clause-runs c =
     let d = shown c.args.self.now.pages in
     let step = c.args.step.now in
-    let shows : stepped d step ≡ shown c.step.new.self = λ i p. sym (c.in_ok-reply.ensures.view p) i in
+    let shows : stepped d step ≡ shown c.step.new.pages = λ i p. sym (c.in_ok-reply.ensures.view p) i in
     let F : View → Type 0 = λ v. Runs d v step (reply_in (copies d) step) in
-    let G : Reply → Type 0 = λ r. Runs d (shown c.step.new.self) step r in
+    let G : Reply → Type 0 = λ r. Runs d (shown c.step.new.pages) step r in
     subst G (sym c.in_ok-reply.ensures.reply) (subst F shows (runs d step c.in_ok-reply.ensures.slots c.requires.none))
