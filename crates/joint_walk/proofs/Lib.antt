@@ -1,0 +1,12 @@
+pub mod Places
+pub mod Joins
+pub mod Joining
+pub mod Using
+pub mod Order
+pub mod Counting
+pub mod Walking
+pub mod Ending
+pub mod Meaning
+pub mod Calling
+pub mod Flushed
+pub mod Slots
