@@ -1,0 +1,14 @@
+pub mod SlotSteps
+pub mod MarkLists
+pub mod Turning
+pub mod ReadSteps
+pub mod Lines
+pub mod Following
+pub mod Dropping
+pub mod Keeping
+pub mod Blocks
+pub mod Telling
+pub mod Going
+pub mod Finding
+pub mod Changing
+pub mod Feeding

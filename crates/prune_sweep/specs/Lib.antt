@@ -1,0 +1,12 @@
+pub mod Keeping
+pub mod Marks
+pub mod Slots
+pub mod Searching
+pub mod Progress
+pub mod Naming
+pub mod Causes
+pub mod Reading
+pub mod Sweeps
+pub mod Line
+pub mod Sweeping
+pub mod Changing
