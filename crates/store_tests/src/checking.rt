@@ -6,7 +6,7 @@ use pair_store::Pair;
 use std::alloc::Global;
 use std::process::Abort;
 use std::test::Fail;
-use store_check::{Chain, CheckRefused, Checked, check};
+use store_check::{Checked, FoundFile, WalkRefused, check};
 
 /// A page at `/0` of the second version of file 1, in block 6.
 const PAGE: [Patch; 2] = [(4096 + 4, &[0x10, 0, 0, 6]), (6144, &[0xA5, 0x50, 1])];
@@ -137,21 +137,21 @@ fn checked(
     alloc: Global,
     base: &[Patch],
     patches: &[Patch],
-) -> Result<Result<Checked, CheckRefused>, Fail> {
+) -> Result<Result<Checked, WalkRefused>, Fail> {
     let drives = history_drives(alloc, base, patches, patches)?;
     let (_pair, checked) = check(alloc, Pair::over(drives));
     Ok(checked)
 }
 
 /// Why a store with these bytes is refused, where it is.
-fn refused(alloc: Global, base: &[Patch], patches: &[Patch]) -> Result<Option<CheckRefused>, Fail> {
+fn refused(alloc: Global, base: &[Patch], patches: &[Patch]) -> Result<Option<WalkRefused>, Fail> {
     Ok(checked(alloc, base, patches)?.err())
 }
 
-fn bad(cause: &Option<(u32, Why)>) -> Result<Option<CheckRefused>, Fail> {
+fn bad(cause: &Option<(u32, Why)>) -> Result<Option<WalkRefused>, Fail> {
     match cause {
         None => Ok(None),
-        Some((n, why)) => Ok(Some(CheckRefused::BadStore {
+        Some((n, why)) => Ok(Some(WalkRefused::BadStore {
             block: BlockNo::of(*n)?,
             why: *why,
         })),
@@ -231,7 +231,7 @@ const KEPT: [(&[Patch], [Option<Kept>; 4], u32); 4] = [
     ),
 ];
 
-fn kept_of(chain: &Chain) -> Kept {
+fn kept_of(chain: &FoundFile) -> Kept {
     (
         chain.last.block.get(),
         chain.first,

@@ -5,7 +5,8 @@ use page_codec::Why;
 use pair_store::Pair;
 use std::alloc::Global;
 use std::test::Fail;
-use tree_listing::{ListingRefused, list_tree};
+use store_check::WalkRefused;
+use tree_listing::list_tree;
 
 /// What follows the gate of an empty page of level 1 in a block.
 const LEVEL_ONE: &[u8] = &[0xa5, 80, 1];
@@ -70,15 +71,15 @@ fn listed(
     pages: &[Patch],
     patches: &[Patch],
     root: u32,
-) -> Result<(Vec<u8>, Result<(), ListingRefused>), Fail> {
+) -> Result<(Vec<u8>, Result<(), WalkRefused>), Fail> {
     let mut pair = Pair::over(plain_drives(alloc, pages, patches)?);
     let mut out = Vec::new(alloc);
     let answer = list_tree(alloc, &mut pair, BlockNo::of(root)?, &mut out);
     Ok((out, answer))
 }
 
-fn bad(block: u32, why: Why) -> Result<Option<ListingRefused>, Fail> {
-    Ok(Some(ListingRefused::BadStore {
+fn bad(block: u32, why: Why) -> Result<Option<WalkRefused>, Fail> {
+    Ok(Some(WalkRefused::BadStore {
         block: BlockNo::of(block)?,
         why,
     }))

@@ -5,8 +5,12 @@
 #[cfg(test)]
 mod drafts;
 #[cfg(test)]
+mod frames;
+#[cfg(test)]
 mod texts;
 #[cfg(test)]
 mod trees;
 #[cfg(test)]
 mod versions;
+#[cfg(test)]
+mod walks;

@@ -9,7 +9,7 @@ use tree_model::{Reply, Step, Tree, accesses, first_clash};
 type Texts = &'static [&'static str];
 
 /// The steps of these texts.
-fn steps(alloc: Global, texts: &[&str]) -> Result<Vec<Step>, Fail> {
+pub fn steps(alloc: Global, texts: &[&str]) -> Result<Vec<Step>, Fail> {
     let mut steps = Vec::new(alloc);
     for text in texts {
         steps.push(step(text).ok_or("no step")?)?;
@@ -25,24 +25,43 @@ fn apply(tree: &mut Tree, steps: &[Step]) -> Result<(), Fail> {
 }
 
 /// Two updates on one base: theirs, which is committed first, and mine.
-struct Meeting {
-    base: Texts,
-    theirs: Texts,
-    mine: Texts,
+pub struct Meeting {
+    pub base: Texts,
+    pub theirs: Texts,
+    pub mine: Texts,
     /// Where they clash: a page, and its slot, or its data.
     clash: Option<(&'static str, Option<u8>)>,
+    /// How many pages of theirs are read until the clash is found, or until both are merged.
+    pub feeds: u64,
     /// Pages of the tree that both leave.
-    pages: &'static [(&'static str, &'static str)],
+    pub pages: &'static [(&'static str, &'static str)],
+}
+
+impl Meeting {
+    /// The place of the clash.
+    pub fn clash(&self) -> Option<(Path, Kind)> {
+        let (page, slot) = self.clash?;
+        place(page, slot)
+    }
 }
 
 const TWO: Texts = &["make /0", "make /1"];
 
-const MEETINGS: [Meeting; 7] = [
+pub const MEETINGS: [Meeting; 8] = [
+    Meeting {
+        base: TWO,
+        theirs: &["write /0 aa"],
+        mine: &["write /1 bb"],
+        clash: None,
+        feeds: 1,
+        pages: &[("/", ""), ("/0", "aa"), ("/1", "bb")],
+    },
     Meeting {
         base: TWO,
         theirs: &["write /0 aa"],
         mine: &["read /0", "write /1 bb"],
         clash: Some(("/0", None)),
+        feeds: 2,
         pages: &[],
     },
     Meeting {
@@ -50,6 +69,7 @@ const MEETINGS: [Meeting; 7] = [
         theirs: &["write /0/1 aa"],
         mine: &["read /0/1", "drop /0"],
         clash: Some(("/0/1", None)),
+        feeds: 3,
         pages: &[],
     },
     Meeting {
@@ -57,6 +77,7 @@ const MEETINGS: [Meeting; 7] = [
         theirs: &["make /3"],
         mine: &["list /", "write /0 bb"],
         clash: Some(("/", Some(3))),
+        feeds: 1,
         pages: &[],
     },
     Meeting {
@@ -64,6 +85,7 @@ const MEETINGS: [Meeting; 7] = [
         theirs: &["write /0 aa"],
         mine: &["write /0 bb"],
         clash: None,
+        feeds: 2,
         pages: &[("/0", "bb"), ("/1", "")],
     },
     Meeting {
@@ -71,6 +93,7 @@ const MEETINGS: [Meeting; 7] = [
         theirs: &["write /0 aa"],
         mine: &["drop /0", "make /0"],
         clash: None,
+        feeds: 2,
         pages: &[("/0", ""), ("/1", "")],
     },
     Meeting {
@@ -78,6 +101,7 @@ const MEETINGS: [Meeting; 7] = [
         theirs: &["write / cc", "write /0 aa"],
         mine: &["make /3"],
         clash: None,
+        feeds: 1,
         pages: &[("/", "cc"), ("/0", "aa"), ("/1", ""), ("/3", "")],
     },
     Meeting {
@@ -85,6 +109,7 @@ const MEETINGS: [Meeting; 7] = [
         theirs: &["make /2"],
         mine: &["make /3"],
         clash: None,
+        feeds: 1,
         pages: &[("/0", ""), ("/1", ""), ("/2", ""), ("/3", "")],
     },
 ];
@@ -123,11 +148,7 @@ fn has_pages(rt: &impl Abort, tree: &Tree, pages: &[(&str, &str)]) -> Result<(),
 fn updates_clash_or_merge(rt: HostRuntime) -> Result<(), Fail> {
     for meeting in &MEETINGS {
         let (clash, tree) = meet(rt.alloc(), meeting)?;
-        let wanted = match meeting.clash {
-            Some((page, slot)) => place(page, slot),
-            None => None,
-        };
-        assert_eq!(rt; clash, wanted);
+        assert_eq!(rt; clash, meeting.clash());
         has_pages(&rt, &tree, meeting.pages)?;
     }
     Ok(())

@@ -12,4 +12,4 @@ use version_chain::{Chain, Flush};
 mod blocks;
 mod chains;
 mod greatest;
-mod updates;
+pub mod updates;

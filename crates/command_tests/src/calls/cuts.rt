@@ -61,20 +61,15 @@ fn played_until(
     Ok(ended.drives.now() < last)
 }
 
-/// Whether a play is cut off at this call. Most calls up to 128 read blocks that are the same on both halves, each as another.
-fn is_tried(call: u64) -> bool {
-    call < 24 || call > 128 || call % 16 == 0
-}
-
 /// Cuts off a play at its calls, from the first one on.
 fn cut_off(rt: &impl Abort, alloc: Global, a: &[Patch], b: &[Patch]) -> Result<(), Fail> {
-    'calls: for call in 1..400 {
-        if is_tried(call) && played_until(rt, alloc, a, b, call)? {
-            assert!(rt; call > 150);
+    'calls: for call in 1..100 {
+        if played_until(rt, alloc, a, b, call)? {
+            assert!(rt; call > 30);
             return Ok(());
         }
     }
-    Err("a play ends before 400 calls".into())
+    Err("a play ends before 100 calls".into())
 }
 
 #[test]

@@ -142,6 +142,40 @@ fn mending_makes_the_halves_equal(rt: HostRuntime) -> Result<(), Fail> {
     Ok(())
 }
 
+/// The first two bytes of block 1 on both halves, the call that fails, how many of the three blocks need no mending before one that
+/// does, and how many device calls it takes to tell.
+const RUNS: [([[u8; 2]; 2], u64, Result<u32, PairFault>, u64); 7] = [
+    ([[0xa5, 1], [0xa5, 1]], 0, Ok(3), 2),
+    ([[0, 1], [0, 2]], 0, Ok(3), 2),
+    ([[0xa5, 1], [0xa5, 2]], 0, Ok(1), 2),
+    ([[0xa5, 1], [0, 2]], 0, Ok(1), 2),
+    ([[0, 1], [0xa5, 2]], 0, Ok(1), 2),
+    (
+        [[0xa5, 1], [0xa5, 1]],
+        1,
+        Err(PairFault::ReadFault { half: Half::B }),
+        1,
+    ),
+    (
+        [[0xa5, 1], [0xa5, 1]],
+        2,
+        Err(PairFault::ReadFault { half: Half::A }),
+        2,
+    ),
+];
+
+#[test]
+fn a_run_ends_at_the_first_block_that_needs_mending(rt: HostRuntime) -> Result<(), Fail> {
+    let mut run = Run::new();
+    for (on, failing, want, calls) in &RUNS {
+        let (a, b) = (block(on[0][0], on[0][1]), block(on[1][0], on[1][1]));
+        let mut pair = Pair::over(halves(rt.alloc(), &a, &b, *failing)?);
+        assert_eq!(rt; pair.count_settled(number(0), 3, &mut run), *want);
+        assert_eq!(rt; (pair.now(), pair.operations()), (*calls, 0));
+    }
+    Ok(())
+}
+
 /// A version page is tested and set twice, and its members are cleared, on any drives of three blocks: the answers, and
 /// the moment and the number of operations after each.
 fn tested<V: Drives>(drives: V) -> ([Result<Tas, PairFault>; 2], [(u64, u64); 4], V)
