@@ -42,11 +42,16 @@ pub fn u64_at(bytes: &[u8], at: usize) -> u64
     ])
 }
 
-/// Whether a byte is not 0.
+/// Whether a byte is not 0. It looks at all of them, many in one step: most blocks have none, and to stop at the first would
+/// be to look at one after the other.
 pub fn is_any_used(bytes: &[u8]) -> bool
     ensures { result ≡ list_any is_nonzero bytes.now }
 {
-    bytes.iter().any(|byte| *byte != 0)
+    let mut used = false;
+    for byte in bytes {
+        used = used | (*byte != 0);
+    }
+    used
 }
 
 /// Whether a byte of a range of the block is not 0; an empty range has none.
