@@ -1,10 +1,10 @@
 // The pages of a version below its root.
 ghost use Rattle.std.specs.Prelude.{◌≡◌, ◌<◌, ◌≤◌, ◌+◌, ◌-◌, ℕ, List, [], ◌∷◌, Option, Some, length, IsErrOf, IfOk, replicate};
 ghost use Rattle.drives.specs.declared.device.Half.{Half};
-ghost use Rattle.page_codec.specs.Values.{PageValue};
+ghost use Rattle.page_codec.specs.Values.{PageValue, ReferenceValue};
 ghost use Rattle.store_model.specs.Laid.{Node};
 ghost use Rattle.store_model.specs.Laws.{pages_of};
-ghost use Rattle.store_model.specs.Pages.{page_at, pages_below, slot_from};
+ghost use Rattle.store_model.specs.Pages.{own_from, page_at, pages_below, slot_from};
 ghost use Rattle.store_check.specs.Before.{AreBefore, BeforeLies, before_at};
 ghost use Rattle.store_check.specs.Since.{IsUnreadSince, is_past};
 ghost use Rattle.store_check.specs.Surveyed.{IsTold, blocks_in};
@@ -74,6 +74,37 @@ fn slot_befores<B: Blocks>(
     }
 }
 
+/// A page of the version's own in this block, which the page in `namer` names, and all pages below it. It is so many levels
+/// above the lowest. It stands apart from the slots that name none, since a function's locals are filled as it is entered.
+#[cycle(pages)]
+fn own_pages<B: Blocks>(
+    survey: &mut Survey<B>,
+    namer: BlockNo,
+    n: BlockNo,
+    before: &Before,
+    depth: u8,
+) -> Result<(), WalkRefused>
+    requires { depth < 7 }
+    ensures began { survey.new.began ≡ survey.old.began }
+    ensures count { survey.new.count ≡ survey.old.count }
+    ensures walk { IsTold B.Blocks survey.old → (nodes : Option (List Node)) (path : List ℕ)
+        (reference : ReferenceValue)
+        → BeforeLies (pages_of (B.content survey.old.began)) survey.old.count nodes
+        → length path + depth ≡ 7
+        → before_at nodes path ≡ before.now
+        → ShowsNone (is_past B.Blocks survey.new.store) result
+        (own_from (blocks_in B.content survey.old)
+        (pages_below (blocks_in B.content survey.old) nodes depth) namer path reference n
+        survey.old.list)
+        survey.new.list }
+    ensures unread { (h : Half) → IsErrOf result (WalkRefused.ReadFault h)
+        → IsUnreadSince B.Blocks survey.new.began survey.new.store h }
+{
+    let page = page_at(survey, namer, n, 7 - depth)?;
+    let befores = slot_befores(survey, before)?;
+    pages_below(survey, n, &page.refs, &befores, depth)
+}
+
 /// A slot of the page in `namer`, and all pages below it. The page that it names is so many levels above the lowest.
 #[cycle(pages)]
 fn slot_pages<B: Blocks>(
@@ -100,11 +131,7 @@ fn slot_pages<B: Blocks>(
 {
     match own_block(namer, reference, before)? {
         None => Ok(()),
-        Some(n) => {
-            let page = page_at(survey, namer, n, 7 - depth)?;
-            let befores = slot_befores(survey, before)?;
-            pages_below(survey, n, &page.refs, &befores, depth)
-        }
+        Some(n) => own_pages(survey, namer, n, before, depth),
     }
 }
 

@@ -113,23 +113,6 @@ slot_pages-returns-in_err-own_block-clause-walk g t c = λ told nodes path lies 
     let chose = choice blocks nodes c.args.depth c.args.namer path c.args.reference.now c.args.before.now c.args.survey.now.list (Err stop.refused) at (sym c.own_block.ensures ∙ c.in_err-own_block.was) in
     shows_exit (λ _ (_ : List Node). Unit {0}) c.from_residual.result stop _ _ (p.1 ∙ ap Err p.2) (chosen_none stop _ _ _ chose)
 
-pub slot_pages-returns-in_err-page-in-Some-clause-walk :
-    goal.slot_pages-returns-in_err-page-in-Some-clause-walk
-slot_pages-returns-in_err-page-in-Some-clause-walk g t c = λ told nodes path lies depth at.
-    let s = c.args.survey.now in
-    let blocks = blocks_in g.B.Blocks.content s in
-    let n = c.in-Some.n in
-    let stop = stopped_at g.B.Blocks c.page_at.new.survey.store c.in_err-page-in-Some.field-0.0 in
-    let p = err_from_is_err_and c.from_residual-in_err-page-in-Some.result c.from_residual-in_err-page-in-Some.ensures.1 in
-    let chose = choice blocks nodes c.args.depth c.args.namer path c.args.reference.now c.args.before.now s.list (Ok (Some n)) at
-    (sym c.own_block.ensures ∙ c.in_ok-own_block.was ∙ ap Ok c.in-Some.is) in
-    let level : 7 - c.args.depth ≡ length path = Prim.omega (arith, depth) in
-    let here : Stops stop (page_at blocks c.args.namer n (length path) s.list) =
-    subst (λ (l : ℕ). Stops stop (page_at blocks c.args.namer n l s.list)) level (c.in_err-page-in-Some.ensures.walk told) in
-    shows_exit (λ _ (_ : List Node). Unit {0}) c.from_residual-in_err-page-in-Some.result stop _ _ (p.1 ∙ ap Err p.2)
-    (stops_on stop (page_at blocks c.args.namer n (length path) s.list) _ here
-    (λ cause is. chose ∙ own_refused blocks (pages_below blocks nodes c.args.depth) c.args.namer path c.args.reference.now n s.list cause is))
-
 pub slot_pages-returns-in-None-clause-walk : goal.slot_pages-returns-in-None-clause-walk
 slot_pages-returns-in-None-clause-walk g t c = λ told nodes path lies depth at.
     let s = c.args.survey.now in
@@ -137,19 +120,41 @@ slot_pages-returns-in-None-clause-walk g t c = λ told nodes path lies depth at.
     (sym c.own_block.ensures ∙ c.in_ok-own_block.was ∙ ap Ok c.in-None.is) in
     (chose.0, tt, chose.1)
 
-pub slot_pages-returns-in_ok-befores-in-Some-clause-walk :
-    goal.slot_pages-returns-in_ok-befores-in-Some-clause-walk
-slot_pages-returns-in_ok-befores-in-Some-clause-walk g t c = λ told nodes path lies depth at.
+pub slot_pages-returns-in-Some-clause-walk : goal.slot_pages-returns-in-Some-clause-walk
+slot_pages-returns-in-Some-clause-walk g t c = λ told nodes path lies depth at.
     let b = g.B.Blocks in
     let s = c.args.survey.now in
     let blocks = blocks_in b.content s in
-    let n = c.in-Some.n in
-    let chose = choice blocks nodes c.args.depth c.args.namer path c.args.reference.now c.args.before.now s.list (Ok (Some n)) at
+    let reference = c.args.reference.now in
+    let chose = choice blocks nodes c.args.depth c.args.namer path reference c.args.before.now s.list (Ok (Some c.in-Some.n)) at
     (sym c.own_block.ensures ∙ c.in_ok-own_block.was ∙ ap Ok c.in-Some.is) in
+    shows_as (λ _ (_ : List Node). Unit {0}) (is_past b c.own_pages.new.survey.store) c.own_pages.result _ _ c.own_pages.new.survey.list chose
+    (c.own_pages.ensures.walk told nodes path reference lies depth at)
+
+pub own_pages-returns-in_err-page-clause-walk : goal.own_pages-returns-in_err-page-clause-walk
+own_pages-returns-in_err-page-clause-walk g t c = λ told nodes path reference lies depth at.
+    let s = c.args.survey.now in
+    let blocks = blocks_in g.B.Blocks.content s in
+    let n = c.args.n in
+    let stop = stopped_at g.B.Blocks c.page_at.new.survey.store c.in_err-page.field-0.0 in
+    let p = err_from_is_err_and c.from_residual.result c.from_residual.ensures.1 in
     let level : 7 - c.args.depth ≡ length path = Prim.omega (arith, depth) in
-    let page = c.in_ok-page-in-Some.page in
-    let first = c.in_ok-page-in-Some.ensures in
-    let second = c.in_ok-befores-in-Some.ensures in
+    let here : Stops stop (page_at blocks c.args.namer n (length path) s.list) =
+    subst (λ (l : ℕ). Stops stop (page_at blocks c.args.namer n l s.list)) level (c.in_err-page.ensures.walk told) in
+    shows_exit (λ _ (_ : List Node). Unit {0}) c.from_residual.result stop _ _ (p.1 ∙ ap Err p.2)
+    (stops_on stop (page_at blocks c.args.namer n (length path) s.list) _ here
+    (λ cause is. own_refused blocks (pages_below blocks nodes c.args.depth) c.args.namer path reference n s.list cause is))
+
+pub own_pages-returns-clause-walk : goal.own_pages-returns-clause-walk
+own_pages-returns-clause-walk g t c = λ told nodes path reference lies depth at.
+    let b = g.B.Blocks in
+    let s = c.args.survey.now in
+    let blocks = blocks_in b.content s in
+    let n = c.args.n in
+    let level : 7 - c.args.depth ≡ length path = Prim.omega (arith, depth) in
+    let page = c.in_ok-page.page in
+    let first = c.in_ok-page.ensures in
+    let second = c.in_ok-befores.ensures in
     let s1 = c.page_at.new.survey in
     let s2 = c.slot_befores.new.survey in
     let here : page_at blocks c.args.namer n (length path) s.list ≡ Ok (page, s1.list) =
@@ -166,7 +171,6 @@ slot_pages-returns-in_ok-befores-in-Some-clause-walk g t c = λ told nodes path 
     (λ d m. ShowsNone {X = List Node} past c.pages_below.result (pages_below (record { content = b.content d; count = m }) nodes c.args.depth n path c.page.inside.refs s2.list) c.pages_below.new.survey.list) shown in
     let shown0 = back b s s1 first.began first.count
     (λ d m. ShowsNone {X = List Node} past c.pages_below.result (pages_below (record { content = b.content d; count = m }) nodes c.args.depth n path c.page.inside.refs s2.list) c.pages_below.new.survey.list) shown1 in
-    shows_as (λ _ (_ : List Node). Unit {0}) past c.pages_below.result _ _ c.pages_below.new.survey.list chose
-    (own_shown blocks (pages_below blocks nodes c.args.depth) past c.args.namer path c.args.reference.now n page s.list s1.list c.pages_below.new.survey.list c.pages_below.result here
+    own_shown blocks (pages_below blocks nodes c.args.depth) past c.args.namer path reference n page s.list s1.list c.pages_below.new.survey.list c.pages_below.result here
     (subst (λ (refs : List ReferenceValue). ShowsNone {X = List Node} past c.pages_below.result (pages_below blocks nodes c.args.depth n path refs s1.list) c.pages_below.new.survey.list) (ap (λ v. v.refs) c.page.view_is)
-    (subst (λ (places : List ℕ). ShowsNone {X = List Node} past c.pages_below.result (pages_below blocks nodes c.args.depth n path c.page.inside.refs places) c.pages_below.new.survey.list) second.list shown0)))
+    (subst (λ (places : List ℕ). ShowsNone {X = List Node} past c.pages_below.result (pages_below blocks nodes c.args.depth n path c.page.inside.refs places) c.pages_below.new.survey.list) second.list shown0))

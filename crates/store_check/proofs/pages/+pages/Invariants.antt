@@ -8,10 +8,13 @@ use Rattle.store_check.proofs.Slots.{SlotsSoFar}
 use Rattle.store_check.proofs.pages.+pages.Given as goal
 
 abbrev pub decreases-pages_below : goal.decreases-pages_below
-decreases-pages_below g l = 2 * l.depth
+decreases-pages_below g l = 3 * l.depth
+
+abbrev pub decreases-own_pages : goal.decreases-own_pages
+decreases-own_pages g l = 3 * l.depth + 1
 
 abbrev pub decreases-slot_pages : goal.decreases-slot_pages
-decreases-slot_pages g l = 2 * l.depth + 1
+decreases-slot_pages g l = 3 * l.depth + 2
 
 abbrev pub invariant-pages_below-slots : goal.invariant-pages_below-slots
 invariant-pages_below-slots g l = record {
