@@ -81,6 +81,19 @@ like_at (x ∷ vs) [] i v h e = absurd h
 like_at (x ∷ vs) (w ∷ ws) zero v h e = record { other = w; listed = refl; like = subst (λ y. HeadLike y w) (some_is e) h.0 }
 like_at (x ∷ vs) (w ∷ ws) (suc i) v h e = let r : LikeAt ws i v = like_at vs ws i v h.1 e in record { other = r.other; listed = r.listed; like = r.like }
 
+-- and of versions that have the same pages of their own
+pub record AllLikeAt (ws : List LaidVersion) (i : ℕ) (v : LaidVersion) : Type 0 where
+  pub other : LaidVersion
+  pub listed : slice_get ws i ≡ Some other
+  pub like : VersionLike v other
+
+pub all_like_at : (vs ws : List LaidVersion) (i : ℕ) (v : LaidVersion) → AllLike vs ws → slice_get vs i ≡ Some v → AllLikeAt ws i v
+all_like_at [] ws i v h e = none_some e
+all_like_at (x ∷ vs) [] i v h e = absurd h
+all_like_at (x ∷ vs) (w ∷ ws) zero v h e = record { other = w; listed = refl; like = subst (λ y. VersionLike y w) (some_is e) h.0 }
+all_like_at (x ∷ vs) (w ∷ ws) (suc i) v h e =
+    let r : AllLikeAt ws i v = all_like_at vs ws i v h.1 e in record { other = r.other; listed = r.listed; like = r.like }
+
 like_length : (vs ws : List LaidVersion) → HeadsLike vs ws → length vs ≡ length ws
 like_length [] [] h = refl
 like_length [] (w ∷ ws) h = absurd h

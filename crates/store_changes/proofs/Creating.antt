@@ -21,12 +21,12 @@ use Rattle.store_model.proofs.PlaceLists.{IsIn, in_head, in_tail, in_cons, in_al
 use Rattle.store_model.proofs.Steps.{blocks_of, went_on, same_places}
 use Rattle.store_model.proofs.Rewriting.{Bytes, bytes_of, made_of, version_made}
 use Rattle.store_model.proofs.Chaining.{chain_stops, chain_again}
-use Rattle.store_model.proofs.Edits.{changed_other}
+use Rattle.store_model.proofs.Edits.{changed_other, changed_same}
 use Rattle.store_model.proofs.Stores.{Parts, parts_of, unlinked, store_of}
 use Rattle.store_changes.specs.Writes.{Content, put_at, WritesEntry, InNewPart}
 use Rattle.store_changes.specs.Stands.{Stands, Another, IsPlace}
 use Rattle.store_changes.specs.Stands as stands
-use Rattle.store_changes.specs.Creating.{NewFile, file_made}
+use Rattle.store_changes.specs.Creating.{NewFile, file_made, Created}
 use Rattle.store_changes.proofs.Entries.{here_from, filed, entries_in, Asked, HereAt, FilesGo, files_swap, RowOf, row_of_file}
 use Rattle.store_changes.proofs.Dead.{IsDead, tops_avoid, dead_before}
 use Rattle.store_changes.proofs.Tables.{Written, entry_written, part_written}
@@ -100,8 +100,7 @@ one_more block v =
 creates : (c d : Content) (most : ℕ) (store : LaidStore) (places : List ℕ) (p : Parts c most store places) (object block : ℕ) (Extra : ℕ → Type 0)
     → NewFile c (store_of p.root p.linked.files) places object block → (entry : EntryValue) → entry.first ≡ Some block
     → (w : Written c d p.root p.root.format (put_at entry object (entries_in p.rows)) p.in_table Extra) → ((n : ℕ) → Extra n → IsIn places n → ⊥) → (Extra block → ⊥)
-    → Stands d most (store_of p.root p.linked.files) (Another object) (stands.with_file object (file_made entry) (state_in (store_of p.root p.linked.files)))
-    (λ n. IsPlace places n ⊎ ((n ≡ block) ⊎ Extra n))
+    → Created d most (store_of p.root p.linked.files) object block entry (λ n. IsPlace places n ⊎ ((n ≡ block) ⊎ Extra n))
 creates c d most store places p object block Extra new entry first w free other =
     let N : ℕ = p.root.blocks in
     let wd : Wider c most store places p w.places Extra = widened c most store places p w.places Extra w.has w.only free in
@@ -144,31 +143,39 @@ creates c d most store places p object block Extra new entry first w free other 
     (inr (inl (tops_avoid c N object (tops_from 1 p.files) (unlinked p.files) wd.in_files p.linked wd.in_all dead wd.tops)))
     (λ n is h. off (subst (IsIn wd.in_all) is h)) in
     record {
-      store = store_of w.after (put_at (filed (row_of entry) go.versions) object p.linked.files);
-      order = qs.order;
-      lies = qs.lies;
-      is = state_put p.root.format p.root.blocks p.root.key w.after (filed (row_of entry) go.versions) object p.linked.files w.format_is w.blocks_is w.key_is
-          ∙ ap (λ (vs : List LaidVersion). stands.with_file object (record { generation = entry.generation; secret = entry.secret; versions = map version_in vs }) (state_in (store_of p.root p.linked.files))) go.gives.0;
-      places = λ n. (
-        λ i. elim (qs.from n i) [
-          | inl x ↦ elim (wd.only n x.0) [ inl y ↦ inl y | inr y ↦ inr (inr y) ]
-          | inr x ↦ elim (go.only n x) [
-            | inl y ↦ elim (wd.only n (wd.files_in n (wd.table_in n y))) [ inl z ↦ inl z | inr z ↦ inr (inr z) ]
-            | inr y ↦ elim y [ inl z ↦ elim (wd.only n (wd.files_in n z)) [ inl a ↦ inl a | inr a ↦ inr (inr a) ] | inr z ↦ inr (inl z) ]
-          ]
-        ],
-        λ i. elim i [
-          | inl x ↦ elim (qs.tops n (wd.has n x)) [
-            | inl y ↦ qs.into n (elim (go.rest n y) [ inl z ↦ go.more n z | inr z ↦ elim z [ inl a ↦ a | inr a ↦ absurd a.0 ] ])
-            | inr y ↦ y
-          ]
-          | inr x ↦ elim x [
-            | inl y ↦ subst (IsIn qs.order) (sym y) (qs.into block (go.into block go.gives.1))
-            | inr y ↦ qs.into n (go.more n (w.extra n y))
-          ]
-        ],
-      );
-      beside = λ j file apart at. changed_other (λ _. filed (row_of entry) go.versions) object j p.linked.files apart ∙ at;
+      stands = record {
+        store = store_of w.after (put_at (filed (row_of entry) go.versions) object p.linked.files);
+        order = qs.order;
+        lies = qs.lies;
+        is = state_put p.root.format p.root.blocks p.root.key w.after (filed (row_of entry) go.versions) object p.linked.files w.format_is w.blocks_is w.key_is
+            ∙ ap (λ (vs : List LaidVersion). stands.with_file object (record { generation = entry.generation; secret = entry.secret; versions = map version_in vs }) (state_in (store_of p.root p.linked.files))) go.gives.0;
+        places = λ n. (
+          λ i. elim (qs.from n i) [
+            | inl x ↦ elim (wd.only n x.0) [ inl y ↦ inl y | inr y ↦ inr (inr y) ]
+            | inr x ↦ elim (go.only n x) [
+              | inl y ↦ elim (wd.only n (wd.files_in n (wd.table_in n y))) [ inl z ↦ inl z | inr z ↦ inr (inr z) ]
+              | inr y ↦ elim y [ inl z ↦ elim (wd.only n (wd.files_in n z)) [ inl a ↦ inl a | inr a ↦ inr (inr a) ] | inr z ↦ inr (inl z) ]
+            ]
+          ],
+          λ i. elim i [
+            | inl x ↦ elim (qs.tops n (wd.has n x)) [
+              | inl y ↦ qs.into n (elim (go.rest n y) [ inl z ↦ go.more n z | inr z ↦ elim z [ inl a ↦ a | inr a ↦ absurd a.0 ] ])
+              | inr y ↦ y
+            ]
+            | inr x ↦ elim x [
+              | inl y ↦ subst (IsIn qs.order) (sym y) (qs.into block (go.into block go.gives.1))
+              | inr y ↦ qs.into n (go.more n (w.extra n y))
+            ]
+          ],
+        );
+        beside = λ j file apart at. changed_other (λ _. filed (row_of entry) go.versions) object j p.linked.files apart ∙ at;
+      };
+      file = filed (row_of entry) go.versions;
+      version = v;
+      listed = changed_same (λ _. filed (row_of entry) go.versions) object p.linked.files new.file new.listed;
+      entry_is = refl;
+      one = go.gives.0;
+      block_is = refl;
     }
 
 -- the same of other words for the same blocks
@@ -177,17 +184,31 @@ pub stands_as : (content : Content) (most : ℕ) (old : LaidStore) (Other : ℕ 
 stands_as content most old Other state P Q f g s =
     record { store = s.store; order = s.order; lies = s.lies; is = s.is; places = λ n. (λ h. f n ((s.places n).0 h), λ h. (s.places n).1 (g n h)); beside = s.beside }
 
+created_as : (content : Content) (most : ℕ) (old : LaidStore) (object block : ℕ) (entry : EntryValue) (P Q : ℕ → Type 0) → ((n : ℕ) → P n → Q n) → ((n : ℕ) → Q n → P n)
+    → Created content most old object block entry P → Created content most old object block entry Q
+unfolding stands_as
+created_as content most old object block entry P Q f g s =
+    record {
+      stands = stands_as content most old (Another object) (stands.with_file object (file_made entry) (state_in old)) P Q f g s.stands;
+      file = s.file;
+      version = s.version;
+      listed = s.listed;
+      entry_is = s.entry_is;
+      one = s.one;
+      block_is = s.block_is;
+    }
+
 pub creating_adds : (c d : Content) (most : ℕ) (store : LaidStore) (places : List ℕ) → laid c most [] ≡ Ok (store, places)
     → (object block : ℕ) → NewFile c store places object block → (entry : EntryValue) → entry.first ≡ Some block → WritesEntry c d store.root object entry
-    → Stands d most store (Another object) (stands.with_file object (file_made entry) (state_in store)) (λ n. IsPlace places n ⊎ (n ≡ block))
+    → Created d most store object block entry (λ n. IsPlace places n ⊎ (n ≡ block))
 creating_adds c d most store places e object block =
     let p : Parts c most store places = parts_of c most store places e in
     subst
     (λ (s : LaidStore). NewFile c s places object block → (entry : EntryValue) → entry.first ≡ Some block → WritesEntry c d s.root object entry
-    → Stands d most s (Another object) (stands.with_file object (file_made entry) (state_in s)) (λ n. IsPlace places n ⊎ (n ≡ block)))
+    → Created d most s object block entry (λ n. IsPlace places n ⊎ (n ≡ block)))
     (sym p.made)
     (λ new entry first w.
-    stands_as d most (store_of p.root p.linked.files) (Another object) (stands.with_file object (file_made entry) (state_in (store_of p.root p.linked.files)))
+    created_as d most (store_of p.root p.linked.files) object block entry
     (λ n. IsPlace places n ⊎ ((n ≡ block) ⊎ ⊥)) (λ n. IsPlace places n ⊎ (n ≡ block))
     (λ n h. elim h [ inl x ↦ inl x | inr x ↦ elim x [ inl y ↦ inr y | inr y ↦ absurd y ] ]) (λ n h. elim h [ inl x ↦ inl x | inr x ↦ inr (inl x) ])
     (creates c d most store places p object block (λ _. ⊥) new entry first
@@ -196,13 +217,13 @@ creating_adds c d most store places e object block =
 pub creating_adds_part : (c d : Content) (most : ℕ) (store : LaidStore) (places : List ℕ) → laid c most [] ≡ Ok (store, places)
     → (object block : ℕ) → NewFile c store places object block → (entry : EntryValue) → entry.first ≡ Some block
     → (new : InNewPart c d store.root places object entry) → new.block ≢ block
-    → Stands d most store (Another object) (stands.with_file object (file_made entry) (state_in store)) (λ n. IsPlace places n ⊎ ((n ≡ block) ⊎ (n ≡ new.block)))
+    → Created d most store object block entry (λ n. IsPlace places n ⊎ ((n ≡ block) ⊎ (n ≡ new.block)))
 creating_adds_part c d most store places e object block =
     let p : Parts c most store places = parts_of c most store places e in
     subst
     (λ (s : LaidStore). NewFile c s places object block → (entry : EntryValue) → entry.first ≡ Some block
     → (new : InNewPart c d s.root places object entry) → new.block ≢ block
-    → Stands d most s (Another object) (stands.with_file object (file_made entry) (state_in s)) (λ n. IsPlace places n ⊎ ((n ≡ block) ⊎ (n ≡ new.block))))
+    → Created d most s object block entry (λ n. IsPlace places n ⊎ ((n ≡ block) ⊎ (n ≡ new.block))))
     (sym p.made)
     (λ new entry first w apart.
     creates c d most store places p object block (λ n. n ≡ w.block) new entry first

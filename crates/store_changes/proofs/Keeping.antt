@@ -15,7 +15,7 @@ use Rattle.store_model.proofs.Locality.{laid_alike}
 use Rattle.store_model.proofs.Edits.{changed_same, changed_other, get_append}
 use Rattle.store_model.proofs.Committing.{committing_together}
 use Rattle.store_changes.specs.Writes.{Content, WritesEntry}
-use Rattle.store_changes.specs.Stands.{IsPageOf, IsPageOfAny, IsThere}
+use Rattle.store_changes.specs.Stands.{IsPageOf, IsPageOfAny, IsThere, IsThereWhole, own_in}
 use Rattle.store_changes.specs.Pruning.{Kept, begun_at, Pruned}
 use Rattle.store_changes.proofs.Alike.{head_same}
 use Rattle.store_changes.proofs.TopsAlike.{with_more, TopsLike, members_alike}
@@ -59,6 +59,7 @@ record ThereStill (vs : List LaidVersion) (j : ℕ) (version : LaidVersion) : Ty
   serial : again.serial ≡ version.serial
   block : again.block ≡ version.block
   tree : (version_in again).tree ≡ (version_in version).tree
+  nodes : again.nodes ≡ version.nodes
 
 with_reference : (block place : ℕ) (vs ys : List LaidVersion) (j : ℕ) (version : LaidVersion) → slice_get vs j ≡ Some version
     → ThereStill (changed_at (committed block) place vs ++ ys) j version
@@ -71,6 +72,7 @@ with_reference block place vs ys j version at = elim (told (nat_eq j place)) [
     serial = refl;
     block = refl;
     tree = refl;
+    nodes = refl;
   }
   | inr f ↦ record {
     again = version;
@@ -78,6 +80,7 @@ with_reference block place vs ys j version at = elim (told (nat_eq j place)) [
     serial = refl;
     block = refl;
     tree = refl;
+    nodes = refl;
   }
 ]
 
@@ -99,14 +102,14 @@ file_then files object block next k j file version listed at = elim (told (nat_e
   | inr f ↦ record {
     file = file;
     listed = changed_other (file_committed block next) object k files (eqb-false k object f) ∙ listed;
-    there = record { again = version; listed = at; serial = refl; block = refl; tree = refl };
+    there = record { again = version; listed = at; serial = refl; block = refl; tree = refl; nodes = refl };
   }
 ]
 
 pub commits_keep_versions : (c d : Content) (most : ℕ) (store : LaidStore) (places : List ℕ) → laid c most [] ≡ Ok (store, places)
     → (next : NextVersion c store places) → Rewrites c d next.base.block (with_commit next.block)
     → (after : LaidStore) (order : List ℕ) → laid d most [] ≡ Ok (after, order)
-    → (version : LaidVersion) (is : IsVersionOf store version) → IsThere after is.object is.place version
+    → (version : LaidVersion) (is : IsVersionOf store version) → IsThereWhole after is.object is.place version
 commits_keep_versions c d most store places e next rw after order f version is =
     let lies : LiesIn d most (record store { files = next.linked.files }) next.after = (committing_together c d most store places e next rw).0 in
     let now : LaidStore = record store { files = next.linked.files } in
@@ -119,11 +122,14 @@ commits_keep_versions c d most store places e next rw after order f version is =
     members_alike c store.root.blocks is.object top next.version.members one.file one.file (files_committed next.object next.block next.version store) next.own next.linked next.after
     one.listed (λ last h. (last, h, head_same last)) next.members in
     record {
-      file = with_more one.file tl.more;
-      again = one.there.again;
-      listed = ap (λ (s : LaidStore). slice_get s.files is.object) (sym after_is) ∙ tl.listed;
-      kept = get_append one.file.versions tl.more is.place one.there.again one.there.listed;
-      serial = one.there.serial;
-      block = one.there.block;
-      tree = one.there.tree;
+      there = record {
+        file = with_more one.file tl.more;
+        again = one.there.again;
+        listed = ap (λ (s : LaidStore). slice_get s.files is.object) (sym after_is) ∙ tl.listed;
+        kept = get_append one.file.versions tl.more is.place one.there.again one.there.listed;
+        serial = one.there.serial;
+        block = one.there.block;
+        tree = one.there.tree;
+      };
+      own = λ path. ap (own_in path) one.there.nodes;
     }

@@ -23,4 +23,6 @@ pub mod Versions
 pub mod Keeping
 pub mod Counting
 pub mod Upgrading
+pub mod TableEntries
 pub mod Premises
+pub mod PartPremises

@@ -1,27 +1,75 @@
 -- A version after one whose pages lie in the same blocks is read alike, whatever else is said of those pages.
-use Rattle.std.proofs.Common.{◌≡◌, ℕ, zero, suc, ◌+◌, ◌==◌, Bool, true, false, cond, List, [], ◌∷◌, ◌++◌, length, Option, Some, None, Ok, refl, sym, ap, subst, ◌∙◌, filter, map}
-use Rattle.std.specs.Option.{option_or}
+use Rattle.std.proofs.Common.{◌≡◌, ℕ, zero, suc, ◌+◌, ◌==◌, Bool, true, false, cond, List, [], ◌∷◌, ◌++◌, length, Option, Some, None, option_map, Ok, refl, sym, ap, subst, ◌∙◌, filter, map}
+use Rattle.std.specs.Option.{option_and_then, option_or}
 use Rattle.std.proofs.lemmas.List.Elements.{filter-append}
+use Rattle.std.proofs.lemmas.List.Folds.{find-append}
 use Rattle.afs_base.specs.Path.{is_prefix}
 use Rattle.page_places.specs.Places.{same}
 use Rattle.page_codec.specs.declared.why.Why.TheVariants.{Reference}
 use Rattle.page_codec.specs.Values.{ReferenceValue}
 use Rattle.store_model.specs.Walk.{Blocks, Walk, bind, done, refuse}
-use Rattle.store_model.specs.Laid.{Node, LaidVersion, is_block, as_shared, shared_from, lies_at, block_in}
+use Rattle.store_model.specs.Laid.{Node, LaidVersion, is_block, as_shared, shared_from, lies_at, page_in, block_in}
 use Rattle.store_model.specs.Pages.{page_at, own_node, Below, own_from, named_from, slot_from, slots_from, pages_below}
 use Rattle.store_model.specs.Chains.{version_at, root_node}
 use Rattle.store_model.proofs.Steps.{Content, blocks_of, passed, went_on, ok≢err, same_value, same_places}
 use Rattle.store_model.proofs.Rewriting.{VersionRead, version_read, version_made, made_of, Follows}
+use Rattle.store_changes.specs.Stands.{own_in}
 use Rattle.store_model.proofs.Finding.{block_in_append, block_in_first, block_in_shared}
 
 -- the pages of its own
 abbrev pub own_of : List Node → List Node
 own_of nodes = filter (λ node. node.is_own) nodes
 
+-- the block of a page, and the page itself where it is its version's own
+abbrev pub shown_of : Node → ℕ × Option Node
+shown_of node = (node.block, cond node.is_own (Some node) None)
+
+-- that of the page at a path
+abbrev pub seen_in : List ℕ → List Node → Option (ℕ × Option Node)
+seen_in p nodes = option_map shown_of (page_in p nodes)
+
+map_either : {X Y : Type 0} (f : X → Y) (a b : Option X) → option_map f (option_or a b) ≡ option_or (option_map f a) (option_map f b)
+map_either f None b = refl
+map_either f (Some x) b = refl
+
+seen_append : (p : List ℕ) (xs ys : List Node) → seen_in p (xs ++ ys) ≡ option_or (seen_in p xs) (seen_in p ys)
+seen_append p xs ys = ap (option_map shown_of) (find-append (λ (node : Node). same p node.path) xs ys) ∙ map_either shown_of (page_in p xs) (page_in p ys)
+
+seen_first : (p : List ℕ) (x : Node) (xs : List Node) → seen_in p (x ∷ xs) ≡ cond (same p x.path) (Some (shown_of x)) (seen_in p xs)
+seen_first p x xs = of (same p x.path)
+  where
+    of : (b : Bool) → option_map shown_of (cond b (Some x) (page_in p xs)) ≡ cond b (Some (shown_of x)) (seen_in p xs)
+    of true = refl
+    of false = refl
+
+-- of pages that are shared nothing but the block is seen
+abbrev block_alone : ℕ → ℕ × Option Node
+block_alone block = (block, None)
+
+seen_shared : (q p : List ℕ) (nodes : List Node) → seen_in p (map (as_shared q) nodes) ≡ option_map block_alone (block_in p (map (as_shared q) nodes))
+seen_shared q p [] = refl
+seen_shared q p (x ∷ xs) = of (same p x.path) (seen_shared q p xs)
+  where
+    of : (b : Bool) → seen_in p (map (as_shared q) xs) ≡ option_map block_alone (block_in p (map (as_shared q) xs))
+        → option_map shown_of (cond b (Some (as_shared q x)) (page_in p (map (as_shared q) xs)))
+        ≡ option_map block_alone (option_map (λ (node : Node). node.block) (cond b (Some (as_shared q x)) (page_in p (map (as_shared q) xs))))
+    of true h = refl
+    of false h = h
+
+-- the page that is its version's own is what is seen
+pub own_seen : (p : List ℕ) (nodes : List Node) → own_in p nodes ≡ option_and_then (λ (x : ℕ × Option Node). x.1) (seen_in p nodes)
+own_seen p nodes = of (page_in p nodes)
+  where
+    of : (o : Option Node) → option_and_then (λ (node : Node). cond node.is_own (Some node) None) o
+        ≡ option_and_then (λ (x : ℕ × Option Node). x.1) (option_map shown_of o)
+    of None = refl
+    of (Some node) = refl
+
 -- pages at the same paths in the same blocks, and the same ones of their version's own
 pub record NodesLike (xs ys : List Node) : Type 0 where
   pub blocks : (p : List ℕ) → block_in p ys ≡ block_in p xs
   pub own : own_of ys ≡ own_of xs
+  pub seen : (p : List ℕ) → seen_in p ys ≡ seen_in p xs
 
 abbrev pub BeforeLike : Option (List Node) → Option (List Node) → Type 0
 BeforeLike None None = Unit {0}
@@ -39,7 +87,7 @@ abbrev pub LikeWalk : Walk (List Node) → Walk (List Node) → Type 0
 LikeWalk walk other = (seen : List ℕ) (nodes : List Node) (all : List ℕ) → walk seen ≡ Ok (nodes, all) → LikeRan other seen nodes all
 
 like_same : (nodes : List Node) → NodesLike nodes nodes
-like_same nodes = record { blocks = λ p. refl; own = refl }
+like_same nodes = record { blocks = λ p. refl; own = refl; seen = λ p. refl }
 
 like_done : (xs ys : List Node) → NodesLike xs ys → LikeWalk (done xs) (done ys)
 unfolding done
@@ -60,6 +108,7 @@ both_like xs ys here there a b =
       blocks = λ p. block_in_append p here there ∙ ap (λ o. option_or o (block_in p there)) (a.blocks p) ∙ ap (option_or (block_in p xs)) (b.blocks p) ∙ sym (block_in_append p xs ys);
       own = filter-append (λ (node : Node). node.is_own) here there ∙ ap (λ l. l ++ own_of there) a.own ∙ ap (λ l. own_of xs ++ l) b.own
           ∙ sym (filter-append (λ (node : Node). node.is_own) xs ys);
+      seen = λ p. seen_append p here there ∙ ap (λ o. option_or o (seen_in p there)) (a.seen p) ∙ ap (option_or (seen_in p xs)) (b.seen p) ∙ sym (seen_append p xs ys);
     }
 
 own_like : (node : Node) (xs ys : List Node) → node.is_own ≡ true → NodesLike xs ys → NodesLike (node ∷ xs) (node ∷ ys)
@@ -67,6 +116,7 @@ own_like node xs ys own like =
     record {
       blocks = λ p. block_in_first p node ys ∙ ap (cond (same p node.path) (Some node.block)) (like.blocks p) ∙ sym (block_in_first p node xs);
       own = ap (λ b. cond b (node ∷ own_of ys) (own_of ys)) own ∙ ap (λ l. node ∷ l) like.own ∙ sym (ap (λ b. cond b (node ∷ own_of xs) (own_of xs)) own);
+      seen = λ p. seen_first p node ys ∙ ap (cond (same p node.path) (Some (shown_of node))) (like.seen p) ∙ sym (seen_first p node xs);
     }
 
 none_own : (path : List ℕ) (nodes : List Node) → own_of (map (as_shared path) nodes) ≡ []
@@ -76,9 +126,14 @@ none_own path (node ∷ nodes) = none_own path nodes
 shared_like : (q : List ℕ) (xs ys : List Node) → ((p : List ℕ) → block_in p ys ≡ block_in p xs) → NodesLike (shared_from q xs) (shared_from q ys)
 shared_like q xs ys like =
     record {
-      blocks = λ p. block_in_shared q p ys ∙ ap (λ o. cond (is_prefix q p) o None) (like p) ∙ sym (block_in_shared q p xs);
+      blocks = blocks;
       own = none_own q (filter (λ node. is_prefix q node.path) ys) ∙ sym (none_own q (filter (λ node. is_prefix q node.path) xs));
+      seen = λ p. seen_shared q p (filter (λ node. is_prefix q node.path) ys) ∙ ap (option_map block_alone) (blocks p)
+          ∙ sym (seen_shared q p (filter (λ node. is_prefix q node.path) xs));
     }
+  where
+    blocks : (p : List ℕ) → block_in p (shared_from q ys) ≡ block_in p (shared_from q xs)
+    blocks p = block_in_shared q p ys ∙ ap (λ o. cond (is_prefix q p) o None) (like p) ∙ sym (block_in_shared q p xs)
 
 abbrev BelowLike : Below → Below → Type 0
 BelowLike below other = (block : ℕ) (path : List ℕ) (refs : List ReferenceValue) → LikeWalk (below block path refs) (other block path refs)
@@ -165,6 +220,7 @@ pub record HeadLike (one two : LaidVersion) : Type 0 where
 pub record VersionLike (one two : LaidVersion) : Type 0 where
   pub head : HeadLike one two
   pub own : own_of two.nodes ≡ own_of one.nodes
+  pub seen : (p : List ℕ) → seen_in p two.nodes ≡ seen_in p one.nodes
 
 pub record VersionGoes (c : Content) (count object namer block : ℕ) (before : LaidVersion) (seen : List ℕ) (u : LaidVersion) (all : List ℕ) : Type 0 where
   pub version : LaidVersion
@@ -188,5 +244,5 @@ version_like c count object namer block one two seen u all h e =
       version = made_of block v.page r.found;
       runs = version_made c count object namer block (Some two) seen all v.bytes v.page r.found v.ranged v.fresh v.holds v.reads v.objects owes v.members r.runs;
       like = subst (λ w. VersionLike w (made_of block v.page r.found)) (sym v.made)
-          (record { head = record { serial = refl; block = refl; commit = refl; members = refl; blocks = nodes.blocks }; own = nodes.own });
+          (record { head = record { serial = refl; block = refl; commit = refl; members = refl; blocks = nodes.blocks }; own = nodes.own; seen = nodes.seen });
     }

@@ -7,7 +7,7 @@ use Rattle.tree_model.proofs.Paths.{told}
 use Rattle.tree_model.specs.States.{State, File, Version}
 use Rattle.page_codec.specs.Values.{EntryValue, RootValue}
 use Rattle.store_model.specs.Walk.{done, if_some}
-use Rattle.store_model.specs.Laid.{LaidVersion, LaidFile, last_laid}
+use Rattle.store_model.specs.Laid.{Node, LaidVersion, LaidFile, last_laid}
 use Rattle.store_model.specs.Chains.{chain_at}
 use Rattle.store_model.specs.Tables.{Row, table_rows, files_from}
 use Rattle.store_model.specs.Members.{Linked, tops_from, tops_linked}
@@ -23,16 +23,17 @@ use Rattle.store_model.proofs.LastVersions.{last_names_none}
 use Rattle.store_model.proofs.Stores.{Parts, parts_of, made_again, unlinked, store_of}
 use Rattle.store_model.proofs.Aside.{Step, objects_in}
 use Rattle.store_changes.specs.Writes.{Content, put_at, WritesEntry}
-use Rattle.store_changes.specs.Stands.{IsPageOf, IsPageOfAny, IsThere}
+use Rattle.std.specs.Option.{option_and_then}
+use Rattle.store_changes.specs.Stands.{IsPageOf, IsPageOfAny, IsThere, IsThereWhole, own_in}
 use Rattle.store_changes.specs.Pruning.{made_first, first_made, pruned_to, state_pruned, Kept, begun_at, Pruned}
 use Rattle.store_changes.proofs.Entries.{here_from, filed, entries_in, AgreeBeside, Asked, HereGoes, HereAt, FilesGo, files_swap, RowOf, row_of_file, rows_alike}
 use Rattle.store_changes.proofs.Dead.{IsDead, tops_pass, none_after}
-use Rattle.store_changes.proofs.Likeness.{HeadLike}
+use Rattle.store_changes.proofs.Likeness.{HeadLike, own_seen}
 use Rattle.store_changes.proofs.ChainAlike.{AllLike}
 use Rattle.store_changes.proofs.Reached.{PageOfSome, to_any, from_any}
 use Rattle.store_changes.proofs.PrunedChain.{PrunedChain, pruned_chain}
 use Rattle.store_changes.proofs.TopsAlike.{LastLike, swapped, with_more, TopsLike, likes_append, tops_alike}
-use Rattle.store_changes.proofs.Alike.{get_drop, get_front, drop_front, take_front, map_drop, last_drop, head_same, HeadsLike, heads_of, LikeAt, like_at, last_like, versions_same, tops_same, tops_swapped}
+use Rattle.store_changes.proofs.Alike.{get_drop, get_front, drop_front, take_front, map_drop, last_drop, head_same, HeadsLike, heads_of, LikeAt, like_at, AllLikeAt, all_like_at, last_like, versions_same, tops_same, tops_swapped}
 use Rattle.store_changes.proofs.Tables.{Written, entry_written}
 use Rattle.store_changes.proofs.Trees.{trees_alike, pages_stay}
 use Rattle.store_changes.proofs.Wider.{Wider, widened}
@@ -280,6 +281,22 @@ module _ (c d : Content) (most : ℕ) (places : List ℕ) (old : LaidStore) (obj
         tree = trees i version l.other dropped listed (sym l.like.block);
       }
 
+  -- behind the first one a version has the same pages of its own
+  is_whole : (i : ℕ) (version : LaidVersion) → slice_get kept.file.versions (place + suc i) ≡ Some version
+      → IsThereWhole (store_of f.root (put_at f.file object old.files)) object (suc i) version
+  is_whole i version at =
+      let dropped : slice_get (drop place kept.file.versions) (suc i) ≡ Some version = get_drop place (suc i) kept.file.versions ∙ at in
+      let l : AllLikeAt f.others i version = all_like_at f.rest f.others i version f.likes (ap (λ vs. slice_get vs (suc i)) (sym f.list) ∙ dropped) in
+      let t : IsThere (store_of f.root (put_at f.file object old.files)) object (suc i) version = is_there (suc i) version at in
+      let file_is : t.file ≡ f.file = some_is (sym t.listed ∙ changed_same (λ _. f.file) object old.files kept.file kept.listed) in
+      let same : t.again ≡ l.other =
+      some_is (sym t.kept ∙ ap (λ (x : LaidFile). slice_get x.versions (suc i)) file_is ∙ ap (λ vs. slice_get vs (suc i)) f.versions ∙ l.listed) in
+      record {
+        there = t;
+        own = λ path. ap (λ (v : LaidVersion). own_in path v.nodes) same ∙ own_seen path l.other.nodes
+            ∙ ap (option_and_then (λ (x : ℕ × Option Node). x.1)) (l.like.seen path) ∙ sym (own_seen path version.nodes);
+      }
+
   -- what is found of the versions
   versions_are : map version_in f.file.versions ≡ first_made (drop place (map version_in kept.file.versions))
   versions_are =
@@ -325,6 +342,7 @@ module _ (c d : Content) (most : ℕ) (places : List ℕ) (old : LaidStore) (obj
           beside = λ j other apart at. changed_other (λ _. f.file) object j old.files apart ∙ at;
         };
         there = is_there;
+        whole = is_whole;
       }
 
 -- the store after the write

@@ -41,7 +41,7 @@ changed_behind g (x ∷ xs) ys n k e =
     ap (λ m. changed_at g m (x ∷ (xs ++ ys))) (let z : n + k ≡ suc (length xs + k) = omega arith in z)
     ∙ ap (λ l. x ∷ l) (changed_behind g xs ys (length xs) k refl)
 
-part_length : (j : ℕ) (b : List ℕ) (entries : List EntryValue) → part_of j b ≡ Ok entries → length entries ≡ 63
+pub part_length : (j : ℕ) (b : List ℕ) (entries : List EntryValue) → part_of j b ≡ Ok entries → length entries ≡ 63
 unfolding part_value raw_entries
 part_length j b entries e =
     ap length (sym (uncaused (first_cause (part_causes j b)) (part_value b) entries e).value)
@@ -50,17 +50,17 @@ part_length j b entries e =
 -- ---- one part
 
 -- what a part that is there was read as
-record PartRead (c : Content) (count j block : ℕ) (seen : List ℕ) (rows : List Row) (all : List ℕ) : Type 0 where
-  bytes : List ℕ
-  entries : List EntryValue
-  holds : c block ≡ Some bytes
-  reads : part_of j bytes ≡ Ok entries
-  ranged : (nat_le 1 block && nat_lt block count) ≡ true
-  fresh : IsIn seen block → ⊥
-  is : rows ≡ rows_in block entries
-  grown : all ≡ block ∷ seen
+pub record PartRead (c : Content) (count j block : ℕ) (seen : List ℕ) (rows : List Row) (all : List ℕ) : Type 0 where
+  pub bytes : List ℕ
+  pub entries : List EntryValue
+  pub holds : c block ≡ Some bytes
+  pub reads : part_of j bytes ≡ Ok entries
+  pub ranged : (nat_le 1 block && nat_lt block count) ≡ true
+  pub fresh : IsIn seen block → ⊥
+  pub is : rows ≡ rows_in block entries
+  pub grown : all ≡ block ∷ seen
 
-part_read : (c : Content) (count j block : ℕ) (seen : List ℕ) (rows : List Row) (all : List ℕ)
+pub part_read : (c : Content) (count j block : ℕ) (seen : List ℕ) (rows : List Row) (all : List ℕ)
     → part_rows (blocks_of c count) j (Some block) seen ≡ Ok (rows, all) → PartRead c count j block seen rows all
 unfolding part_rows bind done
 part_read c count j block seen rows all e =
@@ -91,7 +91,7 @@ pub no_part_goes : (d : Content) (count j : ℕ) (seen : List ℕ) → part_rows
 unfolding part_rows done
 no_part_goes d count j seen = refl
 
-rows_length : (c : Content) (count j : ℕ) (part : Option ℕ) (seen : List ℕ) (rows : List Row) (all : List ℕ)
+pub rows_length : (c : Content) (count j : ℕ) (part : Option ℕ) (seen : List ℕ) (rows : List Row) (all : List ℕ)
     → part_rows (blocks_of c count) j part seen ≡ Ok (rows, all) → length (entries_in rows) ≡ 63
 rows_length c count j None seen rows all e =
     ap (λ (rs : List Row). length (entries_in rs)) (sym (same_value seen all (rows_in 0 (replicate 63 no_entry)) rows (sym (no_part_goes c count j seen) ∙ e)))
@@ -102,15 +102,15 @@ rows_length c count j (Some block) seen rows all e =
 
 -- ---- the parts
 
-record PartsStep (c : Content) (count j : ℕ) (part : Option ℕ) (others : List (Option ℕ)) (seen : List ℕ) (rows : List Row) (all : List ℕ) : Type 0 where
-  here : List Row
-  mid : List ℕ
-  rest : List Row
-  first : part_rows (blocks_of c count) j part seen ≡ Ok (here, mid)
-  later : parts_from (blocks_of c count) (suc j) others mid ≡ Ok (rest, all)
-  is : rows ≡ here ++ rest
+pub record PartsStep (c : Content) (count j : ℕ) (part : Option ℕ) (others : List (Option ℕ)) (seen : List ℕ) (rows : List Row) (all : List ℕ) : Type 0 where
+  pub here : List Row
+  pub mid : List ℕ
+  pub rest : List Row
+  pub first : part_rows (blocks_of c count) j part seen ≡ Ok (here, mid)
+  pub later : parts_from (blocks_of c count) (suc j) others mid ≡ Ok (rest, all)
+  pub is : rows ≡ here ++ rest
 
-parts_step : (c : Content) (count j : ℕ) (part : Option ℕ) (others : List (Option ℕ)) (seen : List ℕ) (rows : List Row) (all : List ℕ)
+pub parts_step : (c : Content) (count j : ℕ) (part : Option ℕ) (others : List (Option ℕ)) (seen : List ℕ) (rows : List Row) (all : List ℕ)
     → parts_from (blocks_of c count) j (part ∷ others) seen ≡ Ok (rows, all) → PartsStep c count j part others seen rows all
 unfolding parts_from bind done
 parts_step c count j part others seen rows all e =

@@ -3,16 +3,19 @@ use Rattle.std.proofs.Common.{◌≡◌, ◌≢◌, ◌⊎◌, inl, inr, ℕ, Li
 use Rattle.std.specs.Option.{option_and_then}
 use Rattle.std.specs.FinMap as map
 use mathlib.Core.Path.{fun_ext}
-use Rattle.page_codec.specs.Values.{PageValue, EntryValue}
+use Rattle.page_codec.specs.Values.{PageValue, VersionValue, EntryValue}
+use Rattle.page_codec.specs.Causes.{version_of}
 use Rattle.page_places.specs.Places.{Store, Holds, block_at}
 use Rattle.tree_model.specs.Trees.{Tree}
 use Rattle.tree_model.proofs.Paths.{path_total, path_only}
 use Rattle.store_model.specs.Found.{LaidStore, laid, version_in}
 use Rattle.store_model.specs.Laid.{LaidVersion}
 use Rattle.store_model.specs.Laws.{pages_of, page_of_block, IsVersionOf}
+use Rattle.store_model.specs.Changes.{version_in_block, Rewrites}
 use Rattle.store_model.proofs.Held.{versions_are_held}
-use Rattle.store_changes.specs.Writes.{Content, WritesEntry}
-use Rattle.store_changes.proofs.Shown.{tables_show_no_page, parts_show_no_page}
+use Rattle.store_model.proofs.Reading.{reads_version}
+use Rattle.store_changes.specs.Writes.{Content, WritesEntry, InNewPart}
+use Rattle.store_changes.proofs.Shown.{Told, told_of, tables_show_no_page, parts_show_no_page}
 use Rattle.store_changes.proofs.InPlaces.{root_there}
 
 -- two trees that the same blocks hold are one
@@ -53,3 +56,27 @@ pages_stay c d most store places e k entry (inl w) =
     beside_shown c d 0 (tables_show_no_page c 0 store.root (root_there c most store places e)) (tables_show_no_page d 0 _ w.is) w.others
 pages_stay c d most store places e k entry (inr w) =
     beside_shown c d w.block (parts_show_no_page c w.part w.block w.entries w.was) (parts_show_no_page d w.part w.block _ w.is) w.others
+
+-- and with a new part
+part_stays : (c d : Content) (most : ℕ) (store : LaidStore) (places : List ℕ) → laid c most [] ≡ Ok (store, places)
+    → (k : ℕ) (entry : EntryValue) → InNewPart c d store.root places k entry → pages_of c ≡ pages_of d
+part_stays c d most store places e k entry w =
+    beside_shown c d 0 (tables_show_no_page c 0 store.root (root_there c most store places e)) (tables_show_no_page d 0 _ w.is) w.others
+
+pub entries_show_the_same : (c d : Content) (most : ℕ) (store : LaidStore) (places : List ℕ) → laid c most [] ≡ Ok (store, places)
+    → (k : ℕ) (entry : EntryValue) → WritesEntry c d store.root k entry ⊎ InNewPart c d store.root places k entry → (n : ℕ) → pages_of d n ≡ pages_of c n
+entries_show_the_same c d most store places e k entry (inl w) n = ap (λ (s : Store). s n) (sym (pages_stay c d most store places e k entry w))
+entries_show_the_same c d most store places e k entry (inr w) n = ap (λ (s : Store). s n) (sym (part_stays c d most store places e k entry w))
+
+-- the page that a version page shows
+page_shown : (c : Content) (block : ℕ) (page : VersionValue) → version_in_block c block ≡ Some page → pages_of c block ≡ Some page.page
+page_shown c block page e =
+    let t : Told (c block) version_of page = told_of version_of (c block) page e in
+    (reads_version c block t.bytes page t.holds t.reads).page.is
+
+pub links_show_the_same : (c d : Content) (block : ℕ) (change : VersionValue → VersionValue) → Rewrites c d block change
+    → ((page : VersionValue) → (change page).page ≡ page.page) → (n : ℕ) → pages_of d n ≡ pages_of c n
+links_show_the_same c d block change w keeps n = elim (same_or_not n block) [
+  | inl e ↦ ap (pages_of d) e ∙ page_shown d block (change w.page) w.is ∙ ap Some (keeps w.page) ∙ sym (page_shown c block w.page w.was) ∙ ap (pages_of c) (sym e)
+  | inr h ↦ ap (option_and_then page_of_block) (sym (w.others n h))
+]

@@ -1,5 +1,5 @@
--- Stores made by hand before and after their table is written: that the laws of such writes speak of something, and what they say there. Each line is
--- checked by computing.
+-- Stores made by hand before and after their table is written: that the laws of such writes speak
+-- of something, and what they say there. Each line is checked by computing.
 use Rattle.std.specs.Prelude.{◌≡◌, ◌≢◌, ℕ, zero, suc, List, [], ◌∷◌, ◌++◌, replicate, Option, Some, None, Ok, refl}
 use Rattle.page_codec.specs.Values.{EntryValue, RootValue}
 use Rattle.page_codec.specs.Blank.{empty_slots, no_entry, no_entries, no_parts}
@@ -15,7 +15,14 @@ use Rattle.store_changes.specs.Upgrading.{widened}
 
 -- block 0 in format 1, as a value
 abbrev pub root_with : List EntryValue → ℕ → RootValue
-root_with entries others = record { format = 1; blocks = 64; key = 7; parts = no_parts; first = entries ++ replicate others no_entry }
+root_with entries others =
+    record {
+      format = 1;
+      blocks = 64;
+      key = 7;
+      parts = no_parts;
+      first = entries ++ replicate others no_entry;
+    }
 
 -- what a block reads as: a table, or part j of one
 unfoldable pub root_in : Store → Option RootValue
@@ -30,10 +37,18 @@ part_in j blocks block = part_in_block (content_of blocks) j block
 
 -- block 2 has the first version of object 2, and is free; then the table names it
 abbrev pub before_creation : Store
-before_creation = Some (table 64 (entry 1 ∷ []) 59) ∷ Some (version_bytes (first_version 1)) ∷ Some (version_bytes (first_version 2)) ∷ []
+before_creation =
+    Some (table 64 (entry 1 ∷ []) 59)
+    ∷ Some (version_bytes (first_version 1))
+    ∷ Some (version_bytes (first_version 2))
+    ∷ []
 
 abbrev pub after_creation : Store
-after_creation = Some (table 64 (entry 1 ∷ entry 2 ∷ []) 58) ∷ Some (version_bytes (first_version 1)) ∷ Some (version_bytes (first_version 2)) ∷ []
+after_creation =
+    Some (table 64 (entry 1 ∷ entry 2 ∷ []) 58)
+    ∷ Some (version_bytes (first_version 1))
+    ∷ Some (version_bytes (first_version 2))
+    ∷ []
 
 pub the_new_page : page_in before_creation 2 ≡ Some (new_version 2)
 unfolding page_in empty_slots
@@ -44,7 +59,9 @@ unfolding serials_in
 one_file_before = refl
 
 -- block 0 alone was written, and has the entry
-pub the_entry_is_written : InRoot (content_of before_creation) (content_of after_creation) (root_with (entry 1 ∷ []) 59) 1 (entry 2)
+pub the_entry_is_written : InRoot
+    (content_of before_creation) (content_of after_creation) (root_with (entry 1 ∷ []) 59)
+    1 (entry 2)
 unfolding root_in
 the_entry_is_written = record { format = refl; is = refl; others = but_zero }
   where
@@ -62,15 +79,21 @@ two_files_then = refl
 abbrev pub gone : EntryValue
 gone = record { first = None; generation = 1; secret = zeros 8 }
 
-pub one_file_left :
-    serials_in (Some (table 64 (entry 1 ∷ gone ∷ []) 58) ∷ Some (version_bytes (first_version 1)) ∷ Some (version_bytes (first_version 2)) ∷ [])
-    ≡ one_file (1 ∷ [])
+abbrev pub after_destruction : Store
+after_destruction =
+    Some (table 64 (entry 1 ∷ gone ∷ []) 58)
+    ∷ Some (version_bytes (first_version 1))
+    ∷ Some (version_bytes (first_version 2))
+    ∷ []
+
+pub one_file_left : serials_in after_destruction ≡ one_file (1 ∷ [])
 unfolding serials_in
 one_file_left = refl
 
 -- ---- fewer versions
 
--- Three versions, in blocks 1, 4 and 6; the second wrote `/0` and shares `/1` with the first. The table names the second as the first.
+-- Three versions, in blocks 1, 4 and 6; the second wrote `/0` and shares `/1` with the first. The
+-- table names the second as the first.
 abbrev pub pruned : Store
 pruned =
     Some (table 64 (entry 4 ∷ []) 59)
@@ -79,7 +102,8 @@ pruned =
     ∷ Some (page_bytes (page 1 empty_slot empty_slot (11 ∷ [])))
     ∷ Some (version_bytes (version 1 2 2 (Some 6) (Some 1) (page 0 (own 5) (shared 3) [])))
     ∷ Some (page_bytes (page 1 empty_slot empty_slot (12 ∷ [])))
-    ∷ Some (version_bytes (version 1 3 7 None (Some 4) (page 0 (shared 5) (shared 3) (104 ∷ 105 ∷ []))))
+    ∷ Some (version_bytes
+    (version 1 3 7 None (Some 4) (page 0 (shared 5) (shared 3) (104 ∷ 105 ∷ []))))
     ∷ []
 
 pub three_before : serials_in (three_versions (shared 5) (shared 3)) ≡ one_file (1 ∷ 2 ∷ 3 ∷ [])
@@ -98,7 +122,8 @@ a_shared_page_stays = refl
 -- ---- a table of the other format
 
 -- no file ever was: block 0 in format 1, and in format 2
-pub widened_alone : root_in (Some (root_bytes (widened no_parts (root_with [] 60))) ∷ []) ≡ Some (widened no_parts (root_with [] 60))
+pub widened_alone : root_in (Some (root_bytes (widened no_parts (root_with [] 60))) ∷ [])
+    ≡ Some (widened no_parts (root_with [] 60))
 unfolding root_in
 widened_alone = refl
 
@@ -110,7 +135,8 @@ widened_store =
     ∷ Some (part_bytes 0 (entry 1 ∷ replicate 62 no_entry))
     ∷ []
 
-pub the_part_of_sixty : part_in 0 widened_store 2 ≡ Some ((root_with (entry 1 ∷ []) 59).first ++ replicate 3 no_entry)
+pub the_part_of_sixty : part_in 0 widened_store 2
+    ≡ Some ((root_with (entry 1 ∷ []) 59).first ++ replicate 3 no_entry)
 unfolding part_in
 the_part_of_sixty = refl
 
@@ -120,20 +146,27 @@ as_many_files = refl
 
 -- ---- a file more in a new part
 
+-- block 0 in format 2, as a value
+abbrev pub wide_root : List (Option ℕ) → RootValue
+wide_root parts =
+    record { format = 2; blocks = 64; key = 7; parts = parts; first = no_entries 60 }
+
 -- block 3 holds part 1, with the entry of object 64 in block 4; then block 0 names it
 abbrev pub with_parts : List (Option ℕ) → Store
 with_parts parts =
-    Some (root_bytes (record { format = 2; blocks = 64; key = 7; parts = parts; first = no_entries 60 }))
+    Some (root_bytes (wide_root parts))
     ∷ Some (version_bytes (first_version 1))
     ∷ Some (part_bytes 0 (part_with 0 (entry 1)))
     ∷ Some (part_bytes 1 (part_with 0 (entry 4)))
     ∷ Some (version_bytes (first_version 64))
     ∷ []
 
-pub the_new_part : part_in 1 (with_parts (Some 2 ∷ replicate 63 None)) 3 ≡ Some (part_with 0 (entry 4))
+pub the_new_part : part_in 1 (with_parts (Some 2 ∷ replicate 63 None)) 3
+    ≡ Some (part_with 0 (entry 4))
 unfolding part_in
 the_new_part = refl
 
-pub found_in_it : serials_in (with_parts (Some 2 ∷ Some 3 ∷ replicate 62 None)) ≡ Ok (((1 ∷ []) ∷ replicate 62 []) ++ ((1 ∷ []) ∷ replicate 3968 []))
+pub found_in_it : serials_in (with_parts (Some 2 ∷ Some 3 ∷ replicate 62 None))
+    ≡ Ok (((1 ∷ []) ∷ replicate 62 []) ++ ((1 ∷ []) ∷ replicate 3968 []))
 unfolding serials_in
 found_in_it = refl

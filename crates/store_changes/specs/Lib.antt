@@ -5,4 +5,5 @@ pub mod Destroying
 pub mod Pruning
 pub mod Upgrading
 pub mod PlacePages
+pub mod TableEntries
 pub mod Examples

@@ -32,7 +32,8 @@ with_part j block root = record root { parts = put_at (Some block) j root.parts 
 abbrev pub part_with : ℕ → EntryValue → List EntryValue
 part_with place entry = put_at entry place (replicate 63 no_entry)
 
--- In format 1: block 0 was written, and has this entry in place of entry k. Entries count from 0, as objects do in these laws.
+-- In format 1: block 0 was written, and has this entry in place of entry k. Entries count from 0,
+-- as objects do in these laws.
 pub record InRoot (c d : Content) (root : RootValue) (k : ℕ) (entry : EntryValue) : Type 0 where
   pub format : root.format ≡ 1
   pub is : root_in_block d 0 ≡ Some (with_first (put_at entry k root.first) root)
@@ -56,8 +57,10 @@ pub record InPart (c d : Content) (root : RootValue) (k : ℕ) (entry : EntryVal
 abbrev pub WritesEntry : Content → Content → RootValue → ℕ → EntryValue → Type 0
 WritesEntry c d root k entry = InRoot c d root k entry ⊎ InPart c d root k entry
 
--- In format 2, where the part was not there: a block that is no place holds it, with the one entry, and block 0 was written and names it.
-pub record InNewPart (c d : Content) (root : RootValue) (places : List ℕ) (k : ℕ) (entry : EntryValue) : Type 0 where
+-- In format 2, where the part was not there: a block that is no place holds it, with the one entry,
+-- and block 0 was written and names it.
+pub record InNewPart (c d : Content) (root : RootValue) (places : List ℕ) (k : ℕ)
+    (entry : EntryValue) : Type 0 where
   pub format : root.format ≡ 2
   pub part : ℕ
   pub at : ℕ
