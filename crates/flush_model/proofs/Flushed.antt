@@ -1,6 +1,7 @@
 -- A flush that is done is read as the next version of its file.
 use Rattle.std.proofs.Common.{◌≡◌, ◌≢◌, ◌⊎◌, ◌↔◌, inl, inr, ℕ, suc, ◌+◌, ◌-◌, ◌≤◌, ◌<◌, Bool, true, false, cond, ◌&&◌, ◌||◌, nat_le, nat_lt, List, [], ◌∷◌, ◌++◌, length, map, filter, Option, Some, None, is_some, option_map, Ok, refl, sym, ap, ◌∙◌, subst, arith, eq-eqb, true≢false, append_assoc, append-nil, slice_get}
 use Rattle.std.specs.List.{list_all}
+use Rattle.std.specs.Option.{option_and_then}
 use Rattle.std.specs.Ordering.{is_lt}
 use Rattle.std.specs.Cmp.{first_so}
 use Rattle.std.proofs.lemmas.Bool.{le-leb, lt-ltb}
@@ -29,6 +30,7 @@ use Rattle.store_model.proofs.Lying.{Each}
 use Rattle.store_model.proofs.Held.{Lies, lies_held}
 use Rattle.store_model.proofs.KeptTrees.{holds_kept}
 use Rattle.store_model.proofs.SharedPages.{shared_pages}
+use Rattle.store_changes.specs.Stands.{own_in}
 use Rattle.store_changes.proofs.Again.{version_lies}
 use Rattle.store_changes.proofs.Trees.{one_tree}
 use Rattle.store_changes.proofs.Versions.{versions_lie}
@@ -89,6 +91,26 @@ found_at P q (x ∷ nodes) node each e = by (told (same q x.path)) (found_at P q
         let one : x ≡ node = some_is (sym (ap (λ c. cond c (Some x) (page_in q nodes)) t) ∙ e) in
         record { is = subst P one each.0; at = same_is q x.path t ∙ ap (λ (n : Node). n.path) one }
     by (inr f) rest = rest (sym (ap (λ c. cond c (Some x) (page_in q nodes)) f) ∙ e)
+
+-- some page is at the path
+first_at : (q : List ℕ) (nodes : List Node) → HasAt q nodes → (node : Node) × (page_in q nodes ≡ Some node)
+first_at q [] h = absurd h
+first_at q (x ∷ nodes) h = by (told (same q x.path)) h (λ i. first_at q nodes i)
+  where
+    by : (same q x.path ≡ true) ⊎ (same q x.path ≡ false) → (x.path ≡ q) ⊎ HasAt q nodes → (HasAt q nodes → (node : Node) × (page_in q nodes ≡ Some node))
+        → (node : Node) × (page_in q (x ∷ nodes) ≡ Some node)
+    by (inl t) h rest = (x, ap (λ c. cond c (Some x) (page_in q nodes)) t)
+    by (inr f) (inl e) rest = absurd (true≢false (sym (ap (same q) e ∙ same_self q) ∙ f))
+    by (inr f) (inr i) rest = let r = rest i in (r.0, ap (λ c. cond c (Some x) (page_in q nodes)) f ∙ r.1)
+
+-- what is found as a page of its version's own is a page there, and is its own
+own_told : (o : Option Node) (node : Node) → option_and_then (λ (n : Node). cond n.is_own (Some n) None) o ≡ Some node → (o ≡ Some node) × (node.is_own ≡ true)
+own_told None node h = absurd cc
+own_told (Some x) node h = by x.is_own refl h
+  where
+    by : (b : Bool) → x.is_own ≡ b → cond b (Some x) None ≡ Some node → (Some x ≡ Some node) × (node.is_own ≡ true)
+    by true is h = (h, ap (λ (n : Node). n.is_own) (sym (some_is h)) ∙ is)
+    by false is h = absurd cc
 
 -- ---- a plan
 
@@ -324,6 +346,22 @@ module _ (content : Content) (most : ℕ) (store : LaidStore) (places : List ℕ
               slots = λ k small. ap (λ n. has_bit n k) modified ∙ mt.modified_is k small;
             }
 
+    marked_at : (path : List ℕ) (node : Node) → own_in path version.nodes ≡ Some node → IsMarked a steps path node
+    marked_at path node h = let x = own_told (page_in path version.nodes) node h in marked path node x.0 x.1
+
+    -- at each fresh path is a page of the version's own
+    own_at : (path : List ℕ) → is_one_of (written_paths (fresh_of a steps)) path ≡ true → (node : Node) × (own_in path version.nodes ≡ Some node)
+    own_at path h =
+        let placed_there : is_one_of (paths_of plan.placed) path ≡ true = sym (own_is path) ∙ ap (λ ps. is_one_of ps path) fresh_are ∙ h in
+        let b : (n : ℕ) × (block_of plan.placed path ≡ Some n) = some_of (block_of plan.placed path) (block_told plan.placed path ∙ placed_there) in
+        let r : (node : Node) × (page_in path version.nodes ≡ Some node) = first_at path version.nodes (has_node path b.0 b.1) in
+        let f : FoundAt (IsAt d plan.placed) path r.0 = found_at (IsAt d plan.placed) path version.nodes r.0 nodes_are r.1 in
+        (r.0, ap (option_and_then (λ (n : Node). cond n.is_own (Some n) None)) r.1 ∙ by b.0 b.1 r.0 f.at f.is)
+      where
+        by : (n : ℕ) → block_of plan.placed path ≡ Some n → (node : Node) → path ≡ node.path → IsAt d plan.placed node → cond node.is_own (Some node) None ≡ Some node
+        by n to node at (inl x) = ap (λ c. cond c (Some node) None) x.own
+        by n to node at (inr x) = let clash : None ≡ Some n = sym x.unplaced ∙ ap (block_of plan.placed) (sym at) ∙ to in absurd cc
+
     tree_is : (version_in version).tree ≡ tree_after a steps
     tree_is =
         one_tree (pages_of content) top (version_in version).tree (tree_after a steps)
@@ -361,7 +399,8 @@ module _ (content : Content) (most : ℕ) (store : LaidStore) (places : List ℕ
           members = refl;
           tree = tree_is;
           fresh = fresh_are;
-          marks = marked;
+          marks = marked_at;
+          own = own_at;
           shared = shared_pages (blocks_of content store.root.blocks) last.nodes top (flushed_page d plan.placed [] w.copy.page) (record { flags = copied_flags (d []); block = Some top })
               (top ∷ []) w.walk.nodes (w.walk.new ++ (top ∷ [])) w.walk.goes;
           places = new_are;

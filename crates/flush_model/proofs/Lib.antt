@@ -3,4 +3,7 @@ pub mod Walking
 pub mod Rising
 pub mod Flushed
 pub mod Ready
+pub mod Several
+pub mod Commits
 pub mod Example
+pub mod WrittenExample
