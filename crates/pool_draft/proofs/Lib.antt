@@ -1,0 +1,14 @@
+pub mod Below
+pub mod Cutting
+pub mod Entries
+pub mod Keeping
+pub mod Leaving
+pub mod Listing
+pub mod Looks
+pub mod Putting
+pub mod Roots
+pub mod RowTouch
+pub mod Rows
+pub mod Searching
+pub mod Touching
+pub mod Written

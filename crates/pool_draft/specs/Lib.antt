@@ -1,0 +1,7 @@
+pub mod Forest
+pub mod Held
+pub mod Roots
+pub mod Rows
+pub mod Seeking
+pub mod Sets
+pub mod Writes
