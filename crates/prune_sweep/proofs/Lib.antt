@@ -12,3 +12,9 @@ pub mod Going
 pub mod Finding
 pub mod Changing
 pub mod Feeding
+pub mod OwnSlots
+pub mod LongerLines
+pub mod StandingFiles
+pub mod FoundFiles
+pub mod FreedThen
+pub mod MaintainedFiles

@@ -10,3 +10,4 @@ pub mod Sweeps
 pub mod Line
 pub mod Sweeping
 pub mod Changing
+pub mod FoundFiles

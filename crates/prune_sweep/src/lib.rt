@@ -11,11 +11,9 @@ mod room;
 mod slots;
 mod stage;
 mod sweep;
-#[cfg(test)]
-mod tests;
 
 pub use keeper::{Busy, Keeper1};
-pub use laws::{sweeping_goes_on, sweeping_grows};
+pub use laws::{files_may_be_swept, sweeping_goes_on, sweeping_grows, what_is_found_becomes_free};
 pub use mark::Mark;
 pub use room::SweepRoom;
 pub use stage::Stage;
