@@ -44,7 +44,7 @@ uncut : (first : ℕ) (v : Version) (vs : List Version) → nat_lt v.serial firs
 uncut first v vs e = ap (λ b. if b then versions_from first vs else as_first v ∷ vs) e
 
 -- what holds of the rest, and of a list with its first version made one, holds of the versions from a serial on
-from_cases : (P : List Version → Type 0) (first : ℕ) (v : Version) (vs : List Version)
+pub from_cases : (P : List Version → Type 0) (first : ℕ) (v : Version) (vs : List Version)
     → (v.serial < first → P (versions_from first vs)) → (first ≤ v.serial → P (as_first v ∷ vs)) → P (versions_from first (v ∷ vs))
 from_cases P first v vs early late = elim (cases_Bool (nat_lt v.serial first)) [
   | inl e ↦ subst P (sym (cut first v vs e)) (early (ltb-true v.serial first e))

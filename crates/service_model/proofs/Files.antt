@@ -23,7 +23,7 @@ pub listed_at : (state : State) (object : ℕ) (file : File) → file_of state o
 listed_at state zero file e = no_some file e
 listed_at state (suc n) file e = sym (ap (λ b. if b then None else slice_get state.files (suc n - 1)) (not_zero n)) ∙ e
 
-found_at : (state : State) (object : ℕ) (file : File) → 1 ≤ object → slice_get state.files (object - 1) ≡ Some file → file_of state object ≡ Some file
+pub found_at : (state : State) (object : ℕ) (file : File) → 1 ≤ object → slice_get state.files (object - 1) ≡ Some file → file_of state object ≡ Some file
 found_at state zero file a e = absurd (omega (arith, a))
 found_at state (suc n) file a e = ap (λ b. if b then None else slice_get state.files (suc n - 1)) (not_zero n) ∙ e
 

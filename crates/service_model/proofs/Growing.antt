@@ -42,7 +42,7 @@ kept_steps t (step ∷ steps) kept all =
 
 -- ---- one more at a list's end
 
-get_push : {X : Type 0} (xs : List X) (x y : X) (k : ℕ) → slice_get (xs ++ x ∷ []) k ≡ Some y → (slice_get xs k ≡ Some y) ⊎ ((k ≡ length xs) × (x ≡ y))
+pub get_push : {X : Type 0} (xs : List X) (x y : X) (k : ℕ) → slice_get (xs ++ x ∷ []) k ≡ Some y → (slice_get xs k ≡ Some y) ⊎ ((k ≡ length xs) × (x ≡ y))
 get_push [] x y zero e = (let both : Some x ≡ Some y = e in inr (refl, cc both))
 get_push [] x y (suc k) e = no_some y e
 get_push (z ∷ xs) x y zero e = inl e

@@ -35,7 +35,7 @@ new_clients (script ∷ scripts) zero = refl
 new_clients (script ∷ scripts) (suc n) = new_clients scripts n
 
 module _ (state : State) (scripts : Scripts) (k : ℕ) where
-  new_client : client_of (start state scripts) k ≡ newcomer
+  pub new_client : client_of (start state scripts) k ≡ newcomer
   new_client = new_clients scripts (k - 1)
 
   -- no update is open before the first entry
@@ -106,21 +106,28 @@ module _ (scripts : Scripts) (s : Standing) (k : ℕ) (own : Line) (a : 1 ≤ k)
   what_keeps mode (Pruned object first blocks at) h = pruned_keeps mode scripts s k own object first blocks at a b sound next h
   what_keeps mode Answered h = answered_keeps mode scripts s k own a b sound next says h
 
--- what stands stays sound by every lawful entry
-pub entry_keeps : (scripts : Scripts) (s : Standing) (e : Entry) → AreSayable scripts → IsSound scripts s → IsLawful scripts s e
+-- what stands stays sound by a lawful entry of a line that may be in a script
+pub line_keeps : (scripts : Scripts) (s : Standing) (e : Entry)
+    → ((line : Line) → next_line scripts s e.client ≡ Some line → IsSayable line.command) → IsSound scripts s → IsLawful scripts s e
     → IsSound scripts (after_entry scripts s e)
-entry_keeps scripts s e says sound lawful = by lawful.2
+line_keeps scripts s e says sound lawful = by lawful.2
   where
     by : IsInLine scripts s e ⊎ IsAtEnd scripts s e → IsSound scripts (after_entry scripts s e)
     by (inl h) =
         let G : Option Line → Type 0
         = λ o. IsSound scripts (option_map_or (λ (line : Line). after_what (mode_of scripts e.client) s e.client line.command e.what) o (after_end s e.client)) in
         subst G (sym h.1) (what_keeps scripts s e.client h.0 lawful.0 lawful.1 sound h.1
-        (says e.client (length (client_of s e.client).answers) h.0 h.1) (mode_of scripts e.client) e.what h.3)
+        (says h.0 h.1) (mode_of scripts e.client) e.what h.3)
     by (inr h) =
         let G : Option Line → Type 0
         = λ o. IsSound scripts (option_map_or (λ (line : Line). after_what (mode_of scripts e.client) s e.client line.command e.what) o (after_end s e.client)) in
         subst G (sym h.1) (end_keeps scripts s e.client lawful.0 lawful.1 sound h.1)
+
+-- what stands stays sound by every lawful entry
+pub entry_keeps : (scripts : Scripts) (s : Standing) (e : Entry) → AreSayable scripts → IsSound scripts s → IsLawful scripts s e
+    → IsSound scripts (after_entry scripts s e)
+entry_keeps scripts s e says sound lawful =
+    line_keeps scripts s e (λ line next. says e.client (length (client_of s e.client).answers) line next) sound lawful
 
 -- ---- a journal
 

@@ -28,7 +28,7 @@ use Rattle.service_model.proofs.Versions.{no_versions, versions_here}
 -- ---- the entry of the new file
 
 -- the first entry that can take a new file: none is there
-found_open : (n : ℕ) (files : List File) (object : ℕ) → first_open n files ≡ Some object → (n ≤ object)
+pub found_open : (n : ℕ) (files : List File) (object : ℕ) → first_open n files ≡ Some object → (n ≤ object)
     × (file : File) × (slice_get files (object - n) ≡ Some file) × (is_open_entry file ≡ true)
 found_open n [] object e = no_some object e
 found_open n (file ∷ files) object e = by (found_open (suc n) files object) (cases_Bool (is_open_entry file))
@@ -82,7 +82,7 @@ no_entries : {A : Type 0} (xs : List A) → length xs ≡ 0 → xs ≡ []
 no_entries [] h = refl
 no_entries (x ∷ xs) h = absurd (omega (arith, h))
 
-entries_empty : map.entries (map.empty {K = List ℕ} {X = List ℕ} {R = path_cmp}) ≡ []
+pub entries_empty : map.entries (map.empty {K = List ℕ} {X = List ℕ} {R = path_cmp}) ≡ []
 entries_empty = no_entries _ (sym (map.len-entries map.empty) ∙ map.len-empty path_cmp (List ℕ))
 
 pub single_keys : map.keys single ≡ [] ∷ []

@@ -23,7 +23,7 @@ use Rattle.service_model.proofs.Members.{in_front, in_rest}
 use Rattle.service_model.proofs.Versions.{IsLiveAt, live_at, live_tree}
 
 -- the blocks of one file after it was changed
-file_blocks : (state : State) (object : ℕ) (change : File → File) (file : File) → file_of state object ≡ Some file
+pub file_blocks : (state : State) (object : ℕ) (change : File → File) (file : File) → file_of state object ≡ Some file
     → sum_by kept_blocks (on_file state object change).files + kept_blocks file ≡ sum_by kept_blocks state.files + kept_blocks (change file)
 file_blocks state object change file e =
     let listed : slice_get state.files (object - 1) ≡ Some file = listed_at state object file e in

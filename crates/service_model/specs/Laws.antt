@@ -1,15 +1,18 @@
 -- What follows for every journal.
-use Rattle.std.specs.Prelude.{◌≡◌, ◌≢◌, ℕ, ◌+◌, ◌<◌, ◌≤◌, List, [], ◌∷◌, ◌++◌, sum_by, Contains}
+use Rattle.std.specs.Prelude.{◌≡◌, ◌≢◌, ℕ, ◌+◌, ◌<◌, ◌≤◌, List, [], ◌∷◌, ◌++◌, sum_by, Some, Contains}
+use Rattle.script_text.specs.declared.script.Line.{Line}
 use Rattle.service_model.specs.declared.journal.Entry.{Entry}
+use Rattle.service_model.specs.declared.journal.Refusal.{Refusal}
 use Rattle.service_model.specs.declared.named.Named.{Named}
 use Rattle.tree_model.specs.declared.step.Step.{Step}
 use Rattle.tree_model.specs.Accesses.{all_reads, all_writes, fresh_of, visible_of}
 use Rattle.tree_model.specs.States.{State, Version, IsState}
 use Rattle.tree_model.specs.Trees.{Tree, replies_of}
-use Rattle.service_model.specs.Standing.{Scripts, Standing, Update, Work, start, client_of, versions_of, serial_of, last_tree, kept_blocks, need, renewed_works}
+use Rattle.service_model.specs.Room.{HasRoom, FilesShare, stored_blocks, used}
+use Rattle.service_model.specs.Standing.{Scripts, Standing, Update, Work, start, client_of, next_line, versions_of, serial_of, last_tree, kept_blocks, need, renewed_works, free}
 use Rattle.service_model.specs.Entries.{after_entry, after_entries, committed_in, standing_after}
-use Rattle.service_model.specs.Legal.{IsCommittable, IsLawful, IsLegalFrom, IsUnclashed, IsUnreadOf, Reaches}
-use Rattle.service_model.specs.Sound.{IsSound, IsKnown, IsOn, IsOpenAt, AreSayable}
+use Rattle.service_model.specs.Legal.{AreUnworn, IsCommittable, IsHoldable, IsLawful, IsLegalFrom, IsRefusable, IsUnclashed, IsUnopposed, IsUnreadOf, Reaches}
+use Rattle.service_model.specs.Sound.{IsSound, IsKnown, IsOn, IsOpenAt, AreSayable, IsSayable}
 
 -- What stands after two lists of entries is what stands after the second where the first one leads.
 abbrev pub StandingAppends : Type 0
@@ -78,6 +81,13 @@ abbrev pub EntryKeepsSound : Type 0
 EntryKeepsSound =
     (scripts : Scripts) (s : Standing) (e : Entry)
     → AreSayable scripts → IsSound scripts s → IsLawful scripts s e → IsSound scripts (after_entry scripts s e)
+
+-- So it does by a lawful entry of a line of which alone it is known that it may be in a script.
+abbrev pub LineKeepsSound : Type 0
+LineKeepsSound =
+    (scripts : Scripts) (s : Standing) (e : Entry)
+    → ((line : Line) → next_line scripts s e.client ≡ Some line → IsSayable line.command)
+    → IsSound scripts s → IsLawful scripts s e → IsSound scripts (after_entry scripts s e)
 
 -- What stands after a legal journal is sound.
 abbrev pub JournalIsSound : Type 0
@@ -153,3 +163,38 @@ CommitTakesNeed =
     → IsSound scripts s → 1 ≤ k → IsOpenAt s k u → IsCommittable s k u made
     → sum_by kept_blocks (committed_in s.state (renewed_works u)).files
     ≡ sum_by kept_blocks s.state.files + need u
+
+-- Where the blocks of a commit may be held, and no cause of a refusal comes earlier, the commit may not be refused.
+abbrev pub HeldIsNotRefused : Type 0
+HeldIsNotRefused =
+    (s : Standing) (k blocks : ℕ) (u : Update) (why : Refusal)
+    → IsHoldable s k u blocks → IsUnopposed s k u → AreUnworn s.state u → IsRefusable s k u why → ⊥
+
+-- ---- blocks
+
+-- A fit state has no more blocks in use than there are, and each version shares with the one before it what is not
+-- fresh in it.
+pub record IsFitting (opening : State) : Type 0 where
+  pub fit : IsFit opening
+  pub within : stored_blocks opening ≤ opening.blocks
+  pub sharing : FilesShare opening
+
+-- Before the first entry no more blocks are in use than there are.
+abbrev pub StartHasRoom : Type 0
+StartHasRoom = (opening : State) (scripts : Scripts) → IsFitting opening → HasRoom scripts (start opening scripts)
+
+-- So it stays by every lawful entry.
+abbrev pub EntryKeepsRoom : Type 0
+EntryKeepsRoom =
+    (scripts : Scripts) (s : Standing) (e : Entry)
+    → IsSound scripts s → HasRoom scripts s → IsLawful scripts s e → HasRoom scripts (after_entry scripts s e)
+
+-- So it is after every legal journal.
+abbrev pub JournalHasRoom : Type 0
+JournalHasRoom =
+    (opening : State) (scripts : Scripts) (es : List Entry) (s : Standing)
+    → IsFitting opening → AreSayable scripts → Reaches opening scripts es s → HasRoom scripts s
+
+-- The free blocks and those in use are all that there are: no subtraction of the free count stops at 0.
+abbrev pub FreeIsTheRest : Type 0
+FreeIsTheRest = (scripts : Scripts) (s : Standing) → HasRoom scripts s → used s + free s ≡ s.state.blocks

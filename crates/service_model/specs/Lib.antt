@@ -8,4 +8,5 @@ pub mod Print
 pub mod Order
 pub mod Bound
 pub mod Sound
+pub mod Room
 pub mod Laws

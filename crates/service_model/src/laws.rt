@@ -1,4 +1,4 @@
-ghost use Rattle.service_model.specs.Laws.{CommitDoesAlike, CommitTakesNeed, EntryKeepsSound, FrontReaches, JournalGoesOn, JournalIsSound, LegalAppends, LegalFront, LegalRest, MergedIsUnclashed, NextReaches, OthersStay, SerialsRise, StandingAppends, StartIsSound, UnclashedDoAlike};
+ghost use Rattle.service_model.specs.Laws.{CommitDoesAlike, CommitTakesNeed, EntryKeepsRoom, EntryKeepsSound, FreeIsTheRest, FrontReaches, HeldIsNotRefused, JournalGoesOn, JournalHasRoom, JournalIsSound, LegalAppends, LegalFront, LegalRest, LineKeepsSound, MergedIsUnclashed, NextReaches, OthersStay, SerialsRise, StandingAppends, StartHasRoom, StartIsSound, UnclashedDoAlike};
 
 /// Runs nothing. Its contract: what stands after two lists of entries is what stands after the second
 /// where the first one leads.
@@ -53,6 +53,12 @@ pub fn entry_keeps_sound()
     ensures { EntryKeepsSound }
 {}
 
+/// Runs nothing. Its contract: what stands stays sound by a lawful entry of a line of which alone it is known that
+/// it may be in a script.
+pub fn line_keeps_sound()
+    ensures { LineKeepsSound }
+{}
+
 /// Runs nothing. Its contract: what stands after a legal journal is sound.
 pub fn journal_is_sound()
     ensures { JournalIsSound }
@@ -84,4 +90,32 @@ pub fn commit_does_alike()
 /// Runs nothing. Its contract: a commit that may be noted takes as many blocks as were held for it.
 pub fn commit_takes_need()
     ensures { CommitTakesNeed }
+{}
+
+/// Runs nothing. Its contract: before the first entry, over a fit state whose blocks suffice and whose versions
+/// share what is not fresh in them, no more blocks are in use than there are.
+pub fn start_has_room()
+    ensures { StartHasRoom }
+{}
+
+/// Runs nothing. Its contract: by every lawful entry it stays so that no more blocks are in use than there are.
+pub fn entry_keeps_room()
+    ensures { EntryKeepsRoom }
+{}
+
+/// Runs nothing. Its contract: after a legal journal no more blocks are in use than there are.
+pub fn journal_has_room()
+    ensures { JournalHasRoom }
+{}
+
+/// Runs nothing. Its contract: where no more blocks are in use than there are, those that are free and those in
+/// use are all that there are, so no subtraction of the free count stops at 0.
+pub fn free_is_the_rest()
+    ensures { FreeIsTheRest }
+{}
+
+/// Runs nothing. Its contract: where the blocks of a commit may be held, and no cause of a refusal comes earlier, the
+/// commit may not be refused.
+pub fn held_is_not_refused()
+    ensures { HeldIsNotRefused }
 {}
