@@ -1,0 +1,212 @@
+-- A store as an opening leaves it, with no client begun, is a scene.
+use Rattle.std.proofs.Common.{◌≡◌, ◌⊎◌, inl, inr, ℕ, zero, suc, ◌-◌, ◌<◌, ◌≤◌, ◌||◌, ◌==◌, Bool, true, false, nat_eq, List, [], ◌∷◌, length, map, Some, None, Ok, refl, sym, ap, ◌∙◌, subst, arith, true≢false, eqb-true}
+use Rattle.std.specs.Prelude.{slice_index_or}
+use Rattle.std.specs.List.{list_any, IsDistinct}
+use Rattle.std.proofs.lemmas.Option.{get_or_from_slice_get}
+use Rattle.block_map.specs.States.{state_at, is_held, held_count}
+use Rattle.block_map.specs.declared.states.BlockState.{BlockState}
+use Rattle.block_map.specs.declared.states.BlockState.TheVariants.{Free, Kept}
+use Rattle.block_map.proofs.Counting.{count_by-pointwise, count_by-none}
+use Rattle.page_codec.specs.Causes.{first_cause, version_causes}
+use Rattle.page_codec.specs.Facts.{VersionFacts}
+use Rattle.page_codec.specs.Reading.{version_value}
+use Rattle.page_codec.specs.Values.{VersionValue}
+use Rattle.page_codec.proofs.FactLaws.{VersionFacts-none}
+use Rattle.pair_store.specs.declared.store.Blocks.{Ghosts}
+use Rattle.recovery.specs.declared.opened.OpenedOver.{OpenedOver}
+use Rattle.recovery.specs.Opening.{IsOpening}
+use Rattle.script_text.specs.ScriptValue.{ScriptValue}
+use Rattle.service_model.specs.Laws.{IsFit}
+use Rattle.service_model.specs.Sound.{AreSayable}
+use Rattle.service_model.specs.Standing.{Scripts, Client, newcomer, start, client_of}
+use Rattle.store_changes.specs.Writes.{Content}
+use Rattle.store_check.specs.Marks.{Marks, mark_of, is_kept}
+use Rattle.store_model.specs.Changes.{IsTop}
+use Rattle.store_model.specs.Found.{LaidStore, laid, found, state_in, state_of}
+use Rattle.store_model.specs.Laid.{LaidVersion}
+use Rattle.store_model.specs.VersionPages.{HasItsPage}
+use Rattle.store_model.proofs.FoundStates.{versions_have_pages, found_is_state}
+use Rattle.store_model.proofs.Reading.{Uncaused, uncaused}
+use Rattle.store_model.proofs.Rewriting.{Bytes, bytes_of}
+use Rattle.tree_model.specs.States.{State, Version}
+use Rattle.ground_model.specs.Fronts.{IsFront}
+use Rattle.ground_model.specs.Opened.{Begins, OpenedBegins}
+use Rattle.ground_model.specs.Scenes.{Scene, HasVersion, IsMapped, IsShared, AreLinksOf, held_by}
+use Rattle.ground_model.proofs.HeldWrites.{version_of as version_in_store}
+use Rattle.ground_model.proofs.Laying.{LaidAs, laid_as}
+
+-- ---- serials begin with 1
+
+serial_at_least : (bytes : List ℕ) → VersionFacts bytes → 1 ≤ (version_value bytes).serial
+unfolding version_value
+serial_at_least bytes facts = facts.serial
+
+pub counted : (c : Content) (most : ℕ) (store : LaidStore) (places : List ℕ) → laid c most [] ≡ Ok (store, places)
+    → (object : ℕ) (version : LaidVersion) → HasVersion store object version → 1 ≤ version.serial
+counted c most store places e object version has =
+    let page : HasItsPage c (suc (object - 1)) version = versions_have_pages c most store places e version (version_in_store store object version has) in
+    let read : Bytes (c version.block) page.page = bytes_of (c version.block) page.page page.held in
+    let u : Uncaused (first_cause (version_causes read.bytes)) (version_value read.bytes) page.page = uncaused (first_cause (version_causes read.bytes)) (version_value read.bytes) page.page read.reads in
+    let low : 1 ≤ (version_value read.bytes).serial = serial_at_least read.bytes (VersionFacts-none read.bytes u.none) in
+    subst (λ n. 1 ≤ n) (ap (λ (v : VersionValue). v.serial) u.value ∙ page.serial) low
+
+-- ---- no client has begun
+
+pub newcomers : (scripts : Scripts) (state : State) (k : ℕ) → client_of (start state scripts) k ≡ newcomer
+newcomers scripts state k = at scripts (k - 1)
+  where
+    at : (ss : Scripts) (i : ℕ) → slice_index_or (map (λ (_ : ScriptValue). newcomer) ss) i newcomer ≡ newcomer
+    at [] i = refl
+    at (s ∷ ss) zero = refl
+    at (s ∷ ss) (suc i) = at ss i
+
+holds_none : (state : State) (scripts : Scripts) (k : ℕ) → held_by (start state scripts) k ≡ 0
+holds_none state scripts zero = refl
+holds_none state scripts (suc k) = ap (λ (c : Client). c.held) (newcomers scripts state (suc k))
+
+-- ---- the map
+
+module _ (places : List ℕ) (states : List BlockState) (marks : Marks places states) where
+  state_is : (n : ℕ) → n < length states → state_at states n ≡ mark_of (is_kept places n)
+  state_is n low = get_or_from_slice_get states n (mark_of (is_kept places n)) Kept (marks n low)
+
+  kept_so : (n : ℕ) → (b : Bool) → is_kept places n ≡ b → mark_of b ≡ Kept → (n ≡ 0) ⊎ (list_any (nat_eq n) places ≡ true)
+  kept_so n true e h = by (n == 0) refl e
+    where
+      by : (z : Bool) → (n == 0) ≡ z → (z || list_any (nat_eq n) places) ≡ true → (n ≡ 0) ⊎ (list_any (nat_eq n) places ≡ true)
+      by true is t = inl (eqb-true n 0 is)
+      by false is t = inr t
+  kept_so n false e h = absurd (let no : Free ≡ Kept = h in cc)
+
+  not_held : (k n : ℕ) → is_held k (state_at states n) ≡ false
+  not_held k n = by (before_or_not n (length states))
+    where
+      before_or_not : (i m : ℕ) → (i < m) ⊎ (m ≤ i)
+      before_or_not i m = grind arith
+
+      marked : (b : Bool) → is_held k (mark_of b) ≡ false
+      marked true = refl
+      marked false = refl
+
+      by : (n < length states) ⊎ (length states ≤ n) → is_held k (state_at states n) ≡ false
+      by (inl low) = ap (is_held k) (state_is n low) ∙ marked (is_kept places n)
+      by (inr past) = ap (is_held k) (past_end states n past)
+        where
+          past_end : (xs : List BlockState) (i : ℕ) → length xs ≤ i → state_at xs i ≡ Kept
+          past_end [] i h = refl
+          past_end (x ∷ xs) zero h = absurd (omega (arith, h))
+          past_end (x ∷ xs) (suc i) h = past_end xs i (omega (arith, h))
+
+  held_none : (k : ℕ) → held_count k states ≡ 0
+  held_none k = count_by-pointwise (is_held k) (λ _. false) states states refl (λ n. not_held k n) ∙ count_by-none states
+
+-- ---- the scene
+
+module _ {D : Type 0} (b : Ghosts D) (o : OpenedOver D) (scripts : Scripts) (is : IsOpening b o) (sayable : AreSayable scripts) where
+  abbrev scene : Scene
+  scene = record {
+    content = b.content o.store;
+    most = b.size o.store;
+    store = is.opened.store;
+    places = is.opened.places;
+    states = o.map;
+    freed = [];
+    standing = start (state_in is.opened.store) scripts;
+  }
+
+  found_now : found (b.content o.store) (b.size o.store) ≡ Ok (state_in is.opened.store)
+  found_now = ap state_of is.opened.laid
+
+  fit : IsFit (state_in is.opened.store)
+  fit = record {
+    state = found_is_state (b.content o.store) (b.size o.store) (state_in is.opened.store) found_now;
+    counted = λ object v has.
+        let l : LaidAs is.opened.store object v = laid_as is.opened.store object v has in
+        subst (λ (x : Version). 1 ≤ x.serial) l.is (counted (b.content o.store) (b.size o.store) is.opened.store is.opened.places is.opened.laid object l.version l.has);
+  }
+
+  map_is : IsMapped scene
+  unfolding IsDistinct
+  map_is = record {
+    size = is.opened.size;
+    kept = λ n low. (
+      λ e. kept_here n (kept_so is.opened.places o.map is.opened.marks n (is_kept is.opened.places n) refl (sym (state_is is.opened.places o.map is.opened.marks n low) ∙ e)),
+      λ e. state_is is.opened.places o.map is.opened.marks n low ∙ ap mark_of (is_so n e),
+    );
+    held = λ k. held_none is.opened.places o.map is.opened.marks k ∙ sym (holds_none (state_in is.opened.store) scripts k);
+    freed = λ n none. absurd (let no : false ≡ true = none in cc);
+    once = tt;
+    frees = refl;
+  }
+    where
+      kept_here : (n : ℕ) → (n ≡ 0) ⊎ (list_any (nat_eq n) is.opened.places ≡ true) → (n ≡ 0) ⊎ (list_any (nat_eq n) is.opened.places ≡ true) ⊎ (list_any (nat_eq n) [] ≡ true)
+      kept_here n (inl e) = inl e
+      kept_here n (inr e) = inr (inl e)
+
+      is_so : (n : ℕ) → (n ≡ 0) ⊎ (list_any (nat_eq n) is.opened.places ≡ true) ⊎ (list_any (nat_eq n) [] ≡ true) → is_kept is.opened.places n ≡ true
+      is_so n (inl e) = ap (is_kept is.opened.places) e
+      is_so n (inr (inl e)) = ap (λ t. (n == 0) || t) e ∙ or_true (n == 0)
+        where
+          or_true : (t : Bool) → (t || true) ≡ true
+          or_true true = refl
+          or_true false = refl
+      is_so n (inr (inr e)) = absurd (let no : false ≡ true = e in cc)
+
+  links_are : AreLinksOf is.opened.store (start (state_in is.opened.store) scripts)
+  links_are = record {
+    links = λ object file listed. inl (is.opened.rolled object file listed).0;
+    tops = λ version top. absurd (untopped version top);
+    members = λ version top i member at. absurd (untopped version top);
+  }
+    where
+      untopped : (version : LaidVersion) → IsTop is.opened.store version → ⊥
+      untopped version top = true≢false (sym ((is.opened.rolled top.object top.file top.listed).1 version top.last) ∙ top.names)
+
+  shared : IsShared scene
+  shared = record {
+    some = (let all = is.opened.free in omega (arith, all));
+    laid = is.opened.laid;
+    state = refl;
+    map = map_is;
+    made = λ k m version at. absurd (let no : None ≡ Some m = at in cc);
+    links = links_are;
+  }
+
+  first_front : (t : ℕ) (f : Content) → o.since ≤ t → t ≤ b.moment o.store → b.may_leave o.store t f → IsFront (state_in is.opened.store) scripts [] t (found f (b.size o.store))
+  first_front t f low high may = record {
+    front = [];
+    rest = [];
+    whole = refl;
+    state = is.since t f low high may ∙ found_now;
+    acknowledged = refl;
+    one = omega arith;
+  }
+
+  pub opened_begins_here : Begins b o scripts scene
+  opened_begins_here = record {
+    stands = record {
+      shared = shared;
+      content = refl;
+      most = refl;
+      settled = λ n low. is.always n (let size = is.opened.size in omega (arith, size, low));
+      fit = fit;
+      sayable = sayable;
+      reaches = record { legal = tt; leads = refl };
+      past = refl;
+      fronts = first_front;
+    };
+    opening = found_now;
+    starts = refl;
+    map = refl;
+    heads = is.opened.heads;
+    resting = λ k client. record {
+      client = client;
+      fresh = ap (λ (c : Client). c.noted) (newcomers scripts (state_in is.opened.store) k);
+      held = ap (λ (c : Client). c.held) (newcomers scripts (state_in is.opened.store) k);
+      idle = λ up none mine. (let no : None ≡ Some up = none in absurd cc);
+    };
+    idle = λ k. ap (λ (c : Client). c.update) (newcomers scripts (state_in is.opened.store) k);
+  }
+
+pub opened_begins : {D : Type 0} (b : Ghosts D) → OpenedBegins b
+opened_begins b o scripts is sayable = (_, opened_begins_here b o scripts is sayable)

@@ -1,0 +1,17 @@
+pub mod Scenes
+pub mod Own
+pub mod Leaves
+pub mod Fronts
+pub mod Runs
+pub mod Steps
+pub mod Opened
+pub mod Lines
+pub mod Laws
+pub mod Commits
+pub mod Drafting
+pub mod Quiet
+pub mod Turns
+pub mod Stops
+pub mod CommitLines
+pub mod Writing
+pub mod Maps
