@@ -1,6 +1,6 @@
 //! Paths and steps as texts.
 use afs_base::{PageData, Path, Slot};
-use tree_model::{Child, Step};
+use tree_model::{Child, Reply, Step};
 
 /// The path that a text as `/0/12` names.
 pub fn path(text: &str) -> Option<Path> {
@@ -42,4 +42,17 @@ fn write(at: Path, data: &str) -> Option<Step> {
         at,
         bytes: PageData::of(data),
     })
+}
+
+/// A page and what a read of it answers, of a text as `/0:data`; `/0` is a page that is not there.
+pub fn answer(text: &str) -> Option<(Path, Reply)> {
+    let (page, data) = match text.split_once(':') {
+        Some(parts) => parts,
+        None => return Some((path(text)?, Reply::Absent)),
+    };
+    let data = data.as_bytes();
+    if data.len() > 800 {
+        return None;
+    }
+    Some((path(page)?, Reply::Bytes(PageData::of(data))))
 }

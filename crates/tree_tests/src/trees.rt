@@ -1,145 +1,200 @@
 //! What steps do to a tree, and when two updates clash.
-use super::texts::{path, step};
+use super::texts::{answer, path, step};
 use afs_base::{Kind, PageData, Path, Slot};
 use std::alloc::Global;
 use std::process::Abort;
 use std::test::Fail;
 use tree_model::{Reply, Step, Tree, accesses, first_clash};
 
-type Texts = &'static [&'static str];
-
-/// The steps of these texts.
-pub fn steps(alloc: Global, texts: &[&str]) -> Result<Vec<Step>, Fail> {
+/// The steps of a text, parted by semicolons.
+pub fn steps(alloc: Global, text: &str) -> Result<Vec<Step>, Fail> {
     let mut steps = Vec::new(alloc);
-    for text in texts {
-        steps.push(step(text).ok_or("no step")?)?;
+    for word in text.split(';') {
+        if !word.is_empty() {
+            steps.push(step(word).ok_or("no step")?)?;
+        }
     }
     Ok(steps)
 }
 
-fn apply(tree: &mut Tree, steps: &[Step]) -> Result<(), Fail> {
+pub fn apply(tree: &mut Tree, steps: &[Step]) -> Result<(), Fail> {
     for step in steps {
         tree.step(step)?;
     }
     Ok(())
 }
 
-/// Two updates on one base: theirs, which is committed first, and mine.
+/// Updates on one base: those that are committed first, and mine.
 pub struct Meeting {
-    pub base: Texts,
-    pub theirs: Texts,
-    pub mine: Texts,
-    /// Where they clash: a page, and its slot, or its data.
-    clash: Option<(&'static str, Option<u8>)>,
-    /// How many pages of theirs are read until the clash is found, or until both are merged.
+    pub base: &'static str,
+    /// The others, parted by bars, each on the version of the one before.
+    pub theirs: &'static str,
+    pub mine: &'static str,
+    /// A page that mine copies and does not access, if any.
+    pub copied: &'static str,
+    /// Where mine clashes with the first of them that it clashes with: a page, and `data` or the slot.
+    pub clash: &'static str,
+    /// How many pages of theirs are read until the clash is found, or until all are merged.
     pub feeds: u64,
-    /// Pages of the tree that both leave.
-    pub pages: &'static [(&'static str, &'static str)],
+    /// Pages of the tree that all leave, with their data, and pages that are not there.
+    pub pages: &'static str,
 }
 
-impl Meeting {
-    /// The place of the clash.
-    pub fn clash(&self) -> Option<(Path, Kind)> {
-        let (page, slot) = self.clash?;
-        place(page, slot)
-    }
-}
-
-const TWO: Texts = &["make /0", "make /1"];
-
-pub const MEETINGS: [Meeting; 8] = [
+pub const MEETINGS: [Meeting; 12] = [
     Meeting {
-        base: TWO,
-        theirs: &["write /0 aa"],
-        mine: &["write /1 bb"],
-        clash: None,
+        base: "make /0;make /1",
+        theirs: "write /0 aa",
+        mine: "write /1 bb",
+        copied: "",
+        clash: "",
         feeds: 1,
-        pages: &[("/", ""), ("/0", "aa"), ("/1", "bb")],
+        pages: "/: /0:aa /1:bb",
     },
     Meeting {
-        base: TWO,
-        theirs: &["write /0 aa"],
-        mine: &["read /0", "write /1 bb"],
-        clash: Some(("/0", None)),
+        base: "make /0;make /1",
+        theirs: "write /0 aa",
+        mine: "read /0;write /1 bb",
+        copied: "",
+        clash: "/0 data",
         feeds: 2,
-        pages: &[],
+        pages: "",
     },
     Meeting {
-        base: &["make /0", "make /0/1"],
-        theirs: &["write /0/1 aa"],
-        mine: &["read /0/1", "drop /0"],
-        clash: Some(("/0/1", None)),
+        base: "make /0;make /0/1",
+        theirs: "write /0/1 aa",
+        mine: "read /0/1;drop /0",
+        copied: "",
+        clash: "/0/1 data",
         feeds: 3,
-        pages: &[],
+        pages: "",
     },
     Meeting {
-        base: TWO,
-        theirs: &["make /3"],
-        mine: &["list /", "write /0 bb"],
-        clash: Some(("/", Some(3))),
+        base: "make /0;make /1",
+        theirs: "make /3",
+        mine: "list /;write /0 bb",
+        copied: "",
+        clash: "/ 3",
         feeds: 1,
-        pages: &[],
+        pages: "",
     },
     Meeting {
-        base: TWO,
-        theirs: &["write /0 aa"],
-        mine: &["write /0 bb"],
-        clash: None,
+        base: "make /0;make /1",
+        theirs: "write /0 aa",
+        mine: "write /0 bb",
+        copied: "",
+        clash: "",
         feeds: 2,
-        pages: &[("/0", "bb"), ("/1", "")],
+        pages: "/0:bb /1:",
     },
     Meeting {
-        base: TWO,
-        theirs: &["write /0 aa"],
-        mine: &["drop /0", "make /0"],
-        clash: None,
+        base: "make /0;make /1",
+        theirs: "write /0 aa",
+        mine: "drop /0;make /0",
+        copied: "",
+        clash: "",
         feeds: 2,
-        pages: &[("/0", ""), ("/1", "")],
+        pages: "/0: /1:",
     },
     Meeting {
-        base: TWO,
-        theirs: &["write / cc", "write /0 aa"],
-        mine: &["make /3"],
-        clash: None,
+        base: "make /0;make /1",
+        theirs: "write / cc;write /0 aa",
+        mine: "make /3",
+        copied: "",
+        clash: "",
         feeds: 1,
-        pages: &[("/", "cc"), ("/0", "aa"), ("/1", ""), ("/3", "")],
+        pages: "/:cc /0:aa /1: /3:",
     },
     Meeting {
-        base: TWO,
-        theirs: &["make /2"],
-        mine: &["make /3"],
-        clash: None,
+        base: "make /0;make /1",
+        theirs: "make /2",
+        mine: "make /3",
+        copied: "",
+        clash: "",
         feeds: 1,
-        pages: &[("/0", ""), ("/1", ""), ("/2", ""), ("/3", "")],
+        pages: "/0: /1: /2: /3:",
+    },
+    // The one that docs/ARCHITECTURE.md follows.
+    Meeting {
+        base: "make /0;make /7",
+        theirs: "write /0 aa;make /2",
+        mine: "read /7;make /0/1;make /3",
+        copied: "",
+        clash: "",
+        feeds: 2,
+        pages: "/0:aa /0/1: /2: /3: /7:",
+    },
+    // Three later versions in a row.
+    Meeting {
+        base: "make /0;make /1",
+        theirs: "write /0 aa|make /2|write /2 cc;drop /1",
+        mine: "make /3;write / bb",
+        copied: "",
+        clash: "",
+        feeds: 3,
+        pages: "/:bb /0:aa /1 /2:cc /3:",
+    },
+    // A page that was fed and not accessed.
+    Meeting {
+        base: "make /0;make /1",
+        theirs: "write /0 aa",
+        mine: "write / bb",
+        copied: "/0",
+        clash: "",
+        feeds: 1,
+        pages: "/:bb /0:aa /1:",
+    },
+    Meeting {
+        base: "make /0;make /1",
+        theirs: "drop /0",
+        mine: "write / bb",
+        copied: "/0",
+        clash: "",
+        feeds: 1,
+        pages: "/:bb /0 /1:",
     },
 ];
 
-/// The clash of my update with theirs, and the tree that both leave, mine after theirs.
-fn meet(alloc: Global, meeting: &Meeting) -> Result<(Option<(Path, Kind)>, Tree), Fail> {
-    let theirs = steps(alloc, meeting.theirs)?;
-    let mine = steps(alloc, meeting.mine)?;
-    let mut tree = Tree::single(alloc)?;
-    apply(&mut tree, &steps(alloc, meeting.base)?)?;
-    let my_access = accesses(alloc, &tree, &mine)?;
-    let their_access = accesses(alloc, &tree, &theirs)?;
-    apply(&mut tree, &theirs)?;
-    let clash = first_clash(&my_access, &their_access.visible(alloc, &tree)?);
-    apply(&mut tree, &mine)?;
-    Ok((clash, tree))
+/// Where mine clashes with the other update, which is then done on the tree.
+pub fn clash_with(
+    alloc: Global,
+    tree: &mut Tree,
+    theirs: &[Step],
+    mine: &[Step],
+) -> Result<Option<(Path, Kind)>, Fail> {
+    let my_access = accesses(alloc, tree, mine)?;
+    let their_access = accesses(alloc, tree, theirs)?;
+    apply(tree, theirs)?;
+    Ok(first_clash(&my_access, &their_access.visible(alloc, tree)?))
 }
 
 /// The place of a clash, as the table has it.
-fn place(page: &str, slot: Option<u8>) -> Option<(Path, Kind)> {
-    match slot {
-        Some(number) => Some((path(page)?, Kind::Slot(Slot::of(number).ok()?))),
-        None => Some((path(page)?, Kind::Data)),
+pub fn place(text: &str) -> Option<(Path, Kind)> {
+    match text.split_once(' ')? {
+        (page, "data") => Some((path(page)?, Kind::Data)),
+        (page, slot) => Some((
+            path(page)?,
+            Kind::Slot(Slot::of(slot.parse::<u8>().ok()?).ok()?),
+        )),
     }
 }
 
-fn has_pages(rt: &impl Abort, tree: &Tree, pages: &[(&str, &str)]) -> Result<(), Fail> {
-    for (page, data) in pages {
-        let found = tree.get(&path(page).ok_or("no path")?).ok_or("no page")?;
-        assert!(rt; found.bytes() == data.as_bytes(), "{page}");
+/// Finds where the updates of a meeting clash, and compares the tree that all leave.
+fn meets(rt: &impl Abort, alloc: Global, meeting: &Meeting) -> Result<(), Fail> {
+    let mine = steps(alloc, meeting.mine)?;
+    let mut tree = Tree::single(alloc)?;
+    apply(&mut tree, &steps(alloc, meeting.base)?)?;
+    let mut clash = None;
+    for theirs in meeting.theirs.split('|') {
+        let found = clash_with(alloc, &mut tree, &steps(alloc, theirs)?, &mine)?;
+        clash = clash.or(found);
+    }
+    assert_eq!(rt; clash, place(meeting.clash));
+    apply(&mut tree, &mine)?;
+    for word in meeting.pages.split(' ') {
+        if !word.is_empty() {
+            let (at, wanted) = answer(word).ok_or("no page")?;
+            assert_eq!(rt; tree.step(&Step::ReadAt { at })?, wanted, "{word}");
+        }
     }
     Ok(())
 }
@@ -147,9 +202,7 @@ fn has_pages(rt: &impl Abort, tree: &Tree, pages: &[(&str, &str)]) -> Result<(),
 #[test]
 fn updates_clash_or_merge(rt: HostRuntime) -> Result<(), Fail> {
     for meeting in &MEETINGS {
-        let (clash, tree) = meet(rt.alloc(), meeting)?;
-        assert_eq!(rt; clash, meeting.clash());
-        has_pages(&rt, &tree, meeting.pages)?;
+        meets(&rt, rt.alloc(), meeting)?;
     }
     Ok(())
 }

@@ -32,7 +32,7 @@ pub struct Written {
 }
 
 /// The page in a block, where its level is that of the path.
-fn page_at(written: &Written, at: &Path, block: BlockNo) -> Option<Page>
+pub fn page_at(written: &Written, at: &Path, block: BlockNo) -> Option<Page>
     ensures { IfSome result (λ page. page.level ≡ length at.now) }
 {
     for (number, page) in &written.pages {

@@ -1,12 +1,13 @@
 //! Walks over pairs of updates that a seed picks, compared with the trees that they stand for.
 ghost use Rattle.std.specs.Prelude.{◌<◌};
 
+use super::super::trees::{apply, clash_with};
 use super::{Offers, Version, Written, begun, carry, commit, draft_on, run, update};
-use afs_base::{Kind, PageData, Path, Slot};
+use afs_base::{PageData, Path, Slot};
 use std::alloc::Global;
 use std::process::Abort;
 use std::test::Fail;
-use tree_model::{Child, Step, Tree, accesses, first_clash};
+use tree_model::{Child, Step, Tree};
 
 /// Numbers in an order that a seed fixes.
 #[derive(Drop)]
@@ -65,13 +66,6 @@ impl Seed {
     }
 }
 
-fn apply(tree: &mut Tree, steps: &[Step]) -> Result<(), Fail> {
-    for step in steps {
-        tree.step(step)?;
-    }
-    Ok(())
-}
-
 /// The k-th path of at most three slots, each 0 to 2.
 fn path_of(k: u8) -> Option<Path> {
     let mut path = Path::root();
@@ -101,35 +95,21 @@ fn compare(
     Ok(())
 }
 
-/// What theirs and mine come to as trees: the clash, and the tree that both leave.
-fn meet(
-    alloc: Global,
-    base: &[Step],
-    theirs: &[Step],
-    mine: &[Step],
-) -> Result<(Option<(Path, Kind)>, Tree), Fail> {
-    let mut tree = Tree::single(alloc)?;
-    apply(&mut tree, base)?;
-    let my_access = accesses(alloc, &tree, mine)?;
-    let their_access = accesses(alloc, &tree, theirs)?;
-    apply(&mut tree, theirs)?;
-    let clash = first_clash(&my_access, &their_access.visible(alloc, &tree)?);
-    apply(&mut tree, mine)?;
-    Ok((clash, tree))
-}
-
 /// Two updates that the seed picks on a base that it picks, as trees and by a walk. Whether they clash.
 fn is_clash(rt: &impl Abort, alloc: Global, seed: &mut Seed) -> Result<bool, Fail> {
     let steps = seed.steps(alloc, 8)?;
     let theirs = seed.steps(alloc, 4)?;
     let mine = seed.steps(alloc, 4)?;
-    let (clash, mut tree) = meet(alloc, &steps, &theirs, &mine)?;
+    let mut tree = Tree::single(alloc)?;
+    apply(&mut tree, &steps)?;
+    let clash = clash_with(alloc, &mut tree, &theirs, &mine)?;
     let (base, mut written) = begun(alloc, &steps)?;
     let later = update(alloc, &base, &mut written, &theirs)?;
     let mut draft = draft_on(alloc, &base, &written, &mine)?;
     let walked = carry(&mut draft, &later, &written, Offers::Nothing)?;
     assert_eq!(rt; walked.clash.map(|found| (found.path, found.kind)), clash);
     if clash.is_none() {
+        apply(&mut tree, &mine)?;
         let version = commit(alloc, &draft, &mut written)?;
         compare(rt, alloc, &version, &written, &mut tree)?;
     }
