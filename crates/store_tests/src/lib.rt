@@ -20,3 +20,5 @@ mod openings;
 mod patched;
 #[cfg(test)]
 mod stable_blocks;
+#[cfg(test)]
+mod sweeps;
