@@ -64,6 +64,16 @@ pub record IsNew (object o : ℕ) (next version : LaidVersion) : Type 0 where
   pub of_object : o ≡ suc object
   pub is : version ≡ next
 
+-- two versions of a file, one after the other, that were there before the commit, but for a commit reference
+pub record WereThere (file : LaidFile) (place : ℕ) (before version : LaidVersion) : Type 0 where
+  pub first : LaidVersion
+  pub second : LaidVersion
+  pub at_first : slice_get file.versions place ≡ Some first
+  pub at_second : slice_get file.versions (suc place) ≡ Some second
+  pub first_block : before.block ≡ first.block
+  pub second_block : version.block ≡ second.block
+  pub serial : version.serial ≡ second.serial
+
 module _ (store : LaidStore) (object block : ℕ) (next : LaidVersion) (file : LaidFile) (base : LaidVersion) (listed : slice_get store.files object ≡ Some file) (last : last_laid file.versions ≡ Some base) where
   pub now_listed : slice_get (changed_at (file_committed block next) object store.files) object ≡ Some (file_committed block next file)
   now_listed = changed_same (file_committed block next) object store.files file listed
@@ -72,17 +82,17 @@ module _ (store : LaidStore) (object block : ℕ) (next : LaidVersion) (file : L
   olds = changed_at (committed block) (length file.versions - 1) file.versions
 
   -- the place of a version of the file that was there
-  old_place : (place : ℕ) (v : LaidVersion) → slice_get olds place ≡ Some v → (was : LaidVersion) × (slice_get file.versions place ≡ Some was) × (v.serial ≡ was.serial) × (v.nodes ≡ was.nodes)
+  old_place : (place : ℕ) (v : LaidVersion) → slice_get olds place ≡ Some v → (was : LaidVersion) × (slice_get file.versions place ≡ Some was) × (v.serial ≡ was.serial) × (v.nodes ≡ was.nodes) × (v.block ≡ was.block)
   old_place place v at = by (same_or_not place (length file.versions - 1))
     where
-      by : (place ≡ length file.versions - 1) ⊎ (place ≢ length file.versions - 1) → (was : LaidVersion) × (slice_get file.versions place ≡ Some was) × (v.serial ≡ was.serial) × (v.nodes ≡ was.nodes)
+      by : (place ≡ length file.versions - 1) ⊎ (place ≢ length file.versions - 1) → (was : LaidVersion) × (slice_get file.versions place ≡ Some was) × (v.serial ≡ was.serial) × (v.nodes ≡ was.nodes) × (v.block ≡ was.block)
       by (inl e) =
           let here : slice_get file.versions place ≡ Some base = ap (slice_get file.versions) e ∙ last in
           let then_is : Some (committed block base) ≡ Some v =
           sym (changed_same (committed block) (length file.versions - 1) file.versions base last) ∙ ap (slice_get olds) (sym e) ∙ at in
           let is : committed block base ≡ v = some_is then_is in
-          (base, here, ap (λ (x : LaidVersion). x.serial) (sym is), ap (λ (x : LaidVersion). x.nodes) (sym is))
-      by (inr ne) = (v, sym (changed_other (committed block) (length file.versions - 1) place file.versions ne) ∙ at, refl, refl)
+          (base, here, ap (λ (x : LaidVersion). x.serial) (sym is), ap (λ (x : LaidVersion). x.nodes) (sym is), ap (λ (x : LaidVersion). x.block) (sym is))
+      by (inr ne) = (v, sym (changed_other (committed block) (length file.versions - 1) place file.versions ne) ∙ at, refl, refl, refl)
 
   length_is : length olds ≡ length file.versions
   length_is = changed_length (committed block) (length file.versions - 1) file.versions
@@ -130,6 +140,35 @@ module _ (store : LaidStore) (object block : ℕ) (next : LaidVersion) (file : L
         serial = refl;
         nodes = refl;
       })
+
+  -- the second of two versions of the file is the new one, and the first the base; or both were there
+  pub next_or_both : (place : ℕ) (before version : LaidVersion) → slice_get (file_committed block next file).versions place ≡ Some before
+      → slice_get (file_committed block next file).versions (suc place) ≡ Some version
+      → ((version ≡ next) × (before.block ≡ base.block)) ⊎ WereThere file place before version
+  next_or_both place before version at after = by (same_or_not (suc place) (length olds))
+    where
+      by : (suc place ≡ length olds) ⊎ (suc place ≢ length olds) → ((version ≡ next) × (before.block ≡ base.block)) ⊎ WereThere file place before version
+      by (inl e) =
+          let same : length olds ≡ length file.versions = length_is in
+          let here : slice_get olds place ≡ Some before = get_more olds next place before at (λ h. (omega (arith, e, h))) in
+          let place_is : place ≡ length file.versions - 1 = omega (arith, e, same) in
+          let then_is : Some (committed block base) ≡ Some before =
+          sym (changed_same (committed block) (length file.versions - 1) file.versions base last) ∙ ap (slice_get olds) (sym place_is) ∙ here in
+          inl (some_is (sym after ∙ ap (slice_get (olds ++ next ∷ [])) e ∙ get_past olds next), ap (λ (v : LaidVersion). v.block) (sym (some_is then_is)))
+      by (inr ne) =
+          let second_at : slice_get olds (suc place) ≡ Some version = get_more olds next (suc place) version after ne in
+          let low : suc place < length olds = within olds (suc place) version second_at in
+          let one = old_place place before (get_more olds next place before at (λ h. omega (arith, h, low))) in
+          let two = old_place (suc place) version second_at in
+          inr (record {
+            first = one.0;
+            second = two.0;
+            at_first = one.1;
+            at_second = two.1;
+            first_block = one.4;
+            second_block = two.4;
+            serial = two.2;
+          })
 
   -- ---- links
 

@@ -1,6 +1,9 @@
 -- The link of a commit of one file that is merged and written: the scene after it.
 use Rattle.std.proofs.Common.{◌≡◌, ◌⊎◌, inl, inr, ℕ, zero, suc, ◌+◌, ◌-◌, ◌≤◌, Bool, true, false, List, [], ◌∷◌, ◌++◌, length, Some, refl, sym, ap, ◌∙◌, subst, arith, slice_get}
-use Rattle.std.specs.Prelude.{option_map, Option, None, if◌then◌else◌}
+use Rattle.std.specs.Prelude.{option_map, Option, None, filter, if◌then◌else◌, slice_set}
+use Rattle.std.specs.List.{sum_by}
+use Rattle.std.proofs.lemmas.List.{length-map}
+use Rattle.std.proofs.lemmas.List.Sums.{sum_by-cons}
 use Rattle.std.specs.Option.{option_and_then}
 use Rattle.std.proofs.lemmas.Option.{slice_get-map}
 use Rattle.block_map.specs.States.{Replaces, state_at, held_count}
@@ -17,26 +20,32 @@ use Rattle.script_text.specs.declared.script.Line.{Line}
 use Rattle.service_model.specs.declared.journal.Entry.{Entry}
 use Rattle.service_model.specs.Entries.{after_entry, committed_in, news_by, next_version}
 use Rattle.service_model.specs.Sound.{IsSound}
-use Rattle.service_model.specs.Standing.{Scripts, Standing, Client, Update, Work, client_of, serial_of, last_tree}
+use Rattle.service_model.specs.Standing.{Scripts, Standing, Client, Update, Work, client_of, need, serial_of, last_tree}
+use Rattle.recovery.specs.Opening.{heads_of}
 use Rattle.store_changes.specs.Stands.{IsPlace, own_in}
+use Rattle.store_check.specs.Files.{own_pages}
 use Rattle.store_changes.specs.Writes.{Content}
-use Rattle.store_model.specs.Changes.{LiesIn, NextVersion, Rewrites, with_commit, with_version}
+use Rattle.store_model.specs.Changes.{LiesIn, NextVersion, Rewrites, changed_at, file_committed, with_commit, with_version}
 use Rattle.store_model.specs.Found.{file_in, state_in, version_in}
-use Rattle.store_model.specs.Laid.{LaidVersion, Node, last_laid, page_in}
+use Rattle.store_model.specs.Laid.{LaidFile, LaidVersion, Node, last_laid, page_in}
 use Rattle.store_model.specs.Laws.{pages_of}
 use Rattle.store_model.specs.Members.{names_none}
 use Rattle.store_model.proofs.Committing.{committing_together}
 use Rattle.store_model.proofs.PlaceLists.{in_either, in_left, in_one, in_right, not_in}
 use Rattle.tree_model.specs.States.{State, Version, IsState}
+use Rattle.tree_model.specs.Accesses.{fresh_as_top, written_paths}
 use Rattle.tree_model.specs.Trees.{Tree, tree_after}
 use Rattle.version_chain.specs.Flush.{Plan, base_of}
-use Rattle.ground_model.specs.Commits.{CommitLinks, IsLinkedTo, IsWritten, MayCommit, commit_entry}
+use Rattle.ground_model.specs.Commits.{CommitLinks, HeadsGoOn, head_after, IsLinkedTo, IsWritten, MayCommit, commit_entry}
 use Rattle.ground_model.specs.Own.{IsHeldBy}
-use Rattle.ground_model.specs.Scenes.{Scene, HasVersion, IsAsMade, IsLinking, IsShared, held_by}
+use Rattle.ground_model.specs.Scenes.{Scene, HasVersion, IsAsMade, IsLinking, IsMadeOf, IsShared, held_by}
 use Rattle.ground_model.specs.Steps.{IsLatest, IsLinkSet, IsNoted}
-use Rattle.ground_model.proofs.CommitNotes.{after_is, commit_lawful, not_mine, then_is, then_length, then_made, then_others, then_own, then_state, unlinked}
+use Rattle.ground_model.proofs.CommitNotes.{after_is, commit_lawful, not_mine, renewed_is, then_is, then_length, then_made, then_others, then_own, then_state, unlinked}
+use Rattle.ground_model.proofs.Committed.{alone}
+use Rattle.ground_model.proofs.Heads.{heads_now}
 use Rattle.ground_model.proofs.Counting.{held_is_placed}
 use Rattle.ground_model.proofs.HeldWrites.{held_is_free}
+use Rattle.ground_model.proofs.MadeOf.{flush_makes}
 use Rattle.ground_model.proofs.Latest.{appended, entry_is, last_is, last_tree_is, last_version_is, same_version, serial_low}
 use Rattle.ground_model.proofs.Steps.{link_leads}
 
@@ -235,12 +244,23 @@ module _ (scripts : Scripts) (k : ℕ) (old : Scene) (line : Line) (u : Update) 
     unlinked = nobody_links;
   }
 
-  noted : IsNoted k old.standing (after_entry scripts old.standing entry) ready.0.next.object ready.0.next.version
+  walked_of : IsMadeOf old.content (news_by old.standing.state w) root read.0.block
+  walked_of =
+      flush_makes old.content (base_of root w.object serial) read.0.block tree w.steps d plan done.merged.stands done.flush.placed nx.block done.flush.done done.all
+      (news_by old.standing.state w) before_is refl
+
+  walked_then : IsMadeOf old.content (news_by old.standing.state w) ready.0.next.base.block read.0.block
+  walked_then = subst (λ n. IsMadeOf old.content (news_by old.standing.state w) n read.0.block) (sym done.merged.base.block_is ∙ ap (λ (v : LaidVersion). v.block) (sym ready.0.base_is)) walked_of
+
+  -- what stands then, and the version page that a walk begins on
+  noted : (n : IsNoted k old.standing (after_entry scripts old.standing entry) ready.0.next.object ready.0.next.version)
+      × IsMadeOf old.content n.news ready.0.next.base.block ready.0.next.version.block
+  unfolding noted_then
   noted =
-      let F : Standing → ℕ → LaidVersion → Type 0 = λ t o v. IsNoted k old.standing t o v in
+      let F : Standing → ℕ → LaidVersion → Type 0 = λ t o v. (n : IsNoted k old.standing t o v) × IsMadeOf old.content n.news ready.0.next.base.block v.block in
       let t : Standing = then_is scripts old.standing k line u w at sound may done.merged.unread late in
       subst (λ x. F x ready.0.next.object ready.0.next.version) (sym (after_is scripts old.standing k line u w at sound may done.merged.unread late))
-      (subst (λ v. F t ready.0.next.object v) (sym ready.0.version_is) (subst (λ o. F t o read.0) (sym ready.0.object_is) noted_then))
+      (subst (λ v. F t ready.0.next.object v) (sym ready.0.version_is) (subst (λ o. F t o read.0) (sym ready.0.object_is) (noted_then, walked_then)))
 
   latest : IsLatest old ready.0.next.object ready.0.next.version
   latest =
@@ -264,9 +284,43 @@ module _ (scripts : Scripts) (k : ℕ) (old : Scene) (line : Line) (u : Update) 
     blocks = refl;
     lawful = commit_lawful scripts old.standing k line u w at sound may done.merged.unread late;
     standing = refl;
-    leads = link_leads k old new shared link noted latest;
+    own =
+        ap (λ (s : Standing). client_of s k) (after_is scripts old.standing k line u w at sound may done.merged.unread late)
+        ∙ then_own scripts old.standing k line u w at sound may done.merged.unread late;
+    leads = link_leads k old new shared link noted.0 latest noted.1;
   }
 
+  -- ---- what is told of the files
+
+  need_is : own_pages read.0 ≡ need u
+  need_is =
+      let sum : need u ≡ sum_by (λ (x : Work). length (fresh_as_top x.base x.steps)) (w ∷ []) =
+      ap (sum_by (λ (x : Work). length (fresh_as_top x.base x.steps))) (renewed_is scripts old.standing k line u w at sound may done.merged.unread late) in
+      let one : sum_by (λ (x : Work). length (fresh_as_top x.base x.steps)) (w ∷ []) ≡ length (fresh_as_top w.base w.steps) + 0 =
+      sum_by-cons (λ (x : Work). length (fresh_as_top x.base x.steps)) w [] in
+      let pages : own_pages read.0 ≡ length (fresh_as_top w.base w.steps) =
+      sym (length-map (filter (λ (n : Node). n.is_own) read.0.nodes) (λ (n : Node). n.path)) ∙ ap length nx.fresh
+      ∙ ap (λ (ps : List (List ℕ)). length (written_paths ps)) done.merged.alike.fresh in
+      omega (arith, sum, one, pages)
+
+  heads_go_on : HeadsGoOn old new w.object top (need u)
+  heads_go_on heads head are here =
+      let F : List LaidFile → Type 0 = λ fs. slice_set heads object (Some (head_after head read.0.block (need u))) ≡ heads_of fs in
+      let G : ℕ → LaidVersion → ℕ → Type 0 = λ o v b. changed_at (file_committed b v) o old.store.files ≡ ready.0.next.linked.files in
+      let both : Some top ≡ Some read.0.block = sym top_is ∙ nx.block in
+      let block : top ≡ read.0.block = cc in
+      let files : changed_at (file_committed ready.0.next.block ready.0.next.version) ready.0.next.object old.store.files ≡ ready.0.next.linked.files =
+      sym (alone old.content old.store old.places ready.0.next (ap names_none ready.0.version_is ∙ ready.1)).files_are in
+      let named : G object read.0 read.0.block =
+      subst (λ b. G object read.0 b) ready.0.block_is
+      (subst (λ v. G object v ready.0.next.block) ready.0.version_is (subst (λ o. G o ready.0.next.version ready.0.next.block) ready.0.object_is files)) in
+      let now : F (changed_at (file_committed read.0.block read.0) object old.store.files) =
+      heads_now old.store object read.0.block read.0 done.merged.base.is.file last done.merged.base.is.listed last_here heads head are here (need u) need_is nx.serial in
+      subst (λ b. slice_set heads object (Some (head_after head b (need u))) ≡ heads_of ready.0.next.linked.files) (sym block) (subst F named now)
+
 pub commit_links : CommitLinks
-commit_links scripts k old line u w root top tree d plan content states at shared sound may done top_is rewrites kept late =
-    (_, commit_links_here scripts k old line u w root top tree d plan content states at shared sound may done top_is rewrites kept late)
+commit_links scripts k old line u w root top tree d plan content states at shared sound may done top_is rewrites kept late = (
+  _,
+  commit_links_here scripts k old line u w root top tree d plan content states at shared sound may done top_is rewrites kept late,
+  heads_go_on scripts k old line u w root top tree d plan content states at shared sound may done top_is rewrites kept late,
+)

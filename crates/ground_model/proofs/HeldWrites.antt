@@ -1,23 +1,26 @@
 -- A write of a block that a client holds: nothing that is found changes.
-use Rattle.std.proofs.Common.{◌≡◌, ◌≢◌, inl, inr, ℕ, zero, suc, ◌-◌, ◌<◌, ◌≤◌, nat_eq, List, [], ◌∷◌, refl, sym, ap, ◌∙◌, arith, length, true≢false}
+use Rattle.std.proofs.Common.{◌≡◌, ◌≢◌, inl, inr, ℕ, zero, suc, ◌-◌, ◌<◌, ◌≤◌, nat_eq, List, [], ◌∷◌, Some, refl, sym, ap, ◌∙◌, arith, length, true≢false}
 use Rattle.std.specs.List.{list_any}
 use Rattle.std.specs.Option.{option_and_then}
 use Rattle.block_map.specs.States.{state_at}
 use Rattle.block_map.specs.declared.states.BlockState.{BlockState}
 use Rattle.block_map.specs.declared.states.BlockState.TheVariants.{Held, Kept}
+use Rattle.draft_model.specs.Stands.{SameBase}
 use Rattle.flush_model.specs.Flushed.{IsFree}
+use Rattle.page_places.specs.Places.{block_at}
 use Rattle.store_changes.specs.Stands.{IsPlace}
 use Rattle.store_changes.specs.Writes.{Content}
 use Rattle.store_changes.proofs.InPlaces.{pages_are_places}
 use Rattle.store_changes.proofs.Keeping.{free_blocks_are_free}
 use Rattle.store_model.specs.Found.{LaidStore}
 use Rattle.store_model.specs.Laid.{LaidVersion}
-use Rattle.store_model.specs.Laws.{IsVersionOf, page_of_block}
+use Rattle.store_model.specs.Laws.{IsVersionOf, page_of_block, pages_of}
 use Rattle.store_model.proofs.PlaceLists.{not_in}
 use Rattle.ground_model.specs.Scenes.{Scene, HasVersion, IsMapped, IsShared}
 use Rattle.ground_model.specs.Own.{IsHeldBy}
 use Rattle.ground_model.specs.Leaves.{IsThereAgain, KeepsVersions, LeavesOthers}
 use Rattle.ground_model.specs.Steps.{IsHeldWrite}
+use Rattle.ground_model.proofs.MadeOf.{made_of_stays, same_top}
 
 -- a version of a store, by its object's number from 1, is one of its versions
 abbrev pub version_of : (store : LaidStore) (object : ℕ) (version : LaidVersion) → HasVersion store object version → IsVersionOf store version
@@ -56,6 +59,16 @@ module _ (k block : ℕ) (old : Scene) (content : Content) (shared : IsShared ol
   free : IsFree old.store old.places block
   free = held_is_free old shared.map k block write.held
 
+  no_place : (n : ℕ) → n ≡ block → IsPlace old.places n → ⊥
+  no_place n e is = true≢false (sym is ∙ ap (λ m. list_any (nat_eq m) old.places) e ∙ free.free)
+
+  -- no block that a version leads to was written
+  kept_below : (version : LaidVersion) → IsVersionOf old.store version → (p : List ℕ) (n : ℕ) → block_at (pages_of old.content) version.block p ≡ Some n → content n ≡ old.content n
+  kept_below version is p n at = write.others n (λ e. no_place n e (pages_are_places old.content old.most old.store old.places shared.laid version is p n at))
+
+  pages_kept : (version : LaidVersion) → IsVersionOf old.store version → SameBase (pages_of old.content) (pages_of content) version.block
+  pages_kept version is p n at = ap (λ x. option_and_then page_of_block x) (kept_below version is p n at)
+
   pub write_shared : IsShared (record old { content = content })
   write_shared = record {
     some = shared.some;
@@ -70,6 +83,11 @@ module _ (k block : ℕ) (old : Scene) (content : Content) (shared : IsShared ol
       frees = shared.map.frees;
     };
     made = shared.made;
+    made_of = λ i place m file before version at low listed first second serial.
+        let one : IsVersionOf old.store before = record { object = m.object - 1; file = file; place = place; listed = listed; kept = first } in
+        let two : IsVersionOf old.store version = record { object = m.object - 1; file = file; place = suc place; listed = listed; kept = second } in
+        made_of_stays old.content content m before.block version.block (pages_kept before one) (pages_kept version two)
+        (same_top old.content content version.block (kept_below version two [] version.block refl)) (shared.made_of i place m file before version at low listed first second serial);
     links = shared.links;
   }
 
@@ -80,13 +98,8 @@ module _ (k block : ℕ) (old : Scene) (content : Content) (shared : IsShared ol
     serial = refl;
     block = refl;
     tree = refl;
-    pages = λ p n at.
-        let place : IsPlace old.places n = pages_are_places old.content old.most old.store old.places shared.laid version (version_of old.store object version has) p n at in
-        ap (λ x. option_and_then page_of_block x) (write.others n (λ e. no_place n e place));
+    pages = pages_kept version (version_of old.store object version has);
   }
-    where
-      no_place : (n : ℕ) → n ≡ block → IsPlace old.places n → ⊥
-      no_place n e is = true≢false (sym is ∙ ap (λ m. list_any (nat_eq m) old.places) e ∙ free.free)
 
   pub write_versions : KeepsVersions old (record old { content = content })
   write_versions = there_again

@@ -3,6 +3,8 @@ pub mod Writes
 pub mod Turning
 pub mod Again
 pub mod Frames
+pub mod PagesWhole
+pub mod MadeOf
 pub mod LineSteps
 pub mod HeldWrites
 pub mod Laying
@@ -15,10 +17,13 @@ pub mod LineKinds
 pub mod Counting
 pub mod Latest
 pub mod CommitNotes
+pub mod Heads
 pub mod Committing
 pub mod Drafting
+pub mod Walking
 pub mod QuietTurns
 pub mod LinkTurns
+pub mod AnsweredLinks
 pub mod Stopping
 pub mod CommitLines
 pub mod Examples

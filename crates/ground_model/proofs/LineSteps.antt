@@ -14,6 +14,7 @@ use Rattle.store_model.proofs.Locality.{laid_alike}
 use Rattle.ground_model.specs.Scenes.{Scene, HasVersion, IsLinking, AreLinksOf, IsMapped, IsShared}
 use Rattle.ground_model.specs.Leaves.{IsThereAgain, KeepsVersions, LeavesOthers}
 use Rattle.ground_model.specs.Steps.{IsLineStep}
+use Rattle.ground_model.proofs.MadeOf.{made_of_stays, same_top}
 
 -- contents that are the same show the same pages
 pub same_pages : (c d : Content) → SameContents c d → (n : ℕ) → pages_of d n ≡ pages_of c n
@@ -64,6 +65,10 @@ module _ (k : ℕ) (old : Scene) (content : Content) (states : List BlockState) 
     state = shared.state ∙ sym step.only.state;
     map = mapped;
     made = λ i m version at has serial later. shared.made i m version (ap (λ (ms : List Made). slice_get ms i) (sym step.only.made) ∙ at) has serial later;
+    made_of = λ i place m file before version at low listed first second serial.
+        made_of_stays old.content content m before.block version.block (λ p n is. same_pages old.content content step.same n) (λ p n is. same_pages old.content content step.same n)
+        (same_top old.content content version.block (step.same version.block))
+        (shared.made_of i place m file before version (ap (λ (ms : List Made). slice_get ms i) (sym step.only.made) ∙ at) low listed first second serial);
     links = links_stay;
   }
 

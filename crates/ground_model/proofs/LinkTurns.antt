@@ -84,4 +84,5 @@ link_turn_stands b settled_left opening scripts first k scene before after es li
         moments = one_entry (b.moment after) (commit_entry scene.standing k line u (b.moment after)) refl;
       }) to.leads.shared,
       to,
+      links.2,
     )

@@ -30,11 +30,12 @@ use Rattle.std.specs.Option.{option_and_then}
 use Rattle.tree_model.specs.States.{State}
 use Rattle.ground_model.specs.Leaves.{KeepsVersions, LeavesOthers}
 use Rattle.ground_model.specs.Own.{IsHeldBy}
-use Rattle.ground_model.specs.Scenes.{Scene, HasVersion, IsAsMade, AreAsMade, IsLinking, AreLinksOf, IsMapped, IsShared, held_by}
+use Rattle.ground_model.specs.Scenes.{Scene, HasVersion, IsAsMade, AreAsMade, IsMadeOf, AreMadeOf, IsLinking, AreLinksOf, IsMapped, IsShared, held_by}
 use Rattle.ground_model.specs.Steps.{IsLinkSet, IsNoted, IsLatest}
-use Rattle.ground_model.proofs.Committed.{Ended, alone, IsNew, WasThere, new_or_old, still_linked, last_now, now_listed}
+use Rattle.ground_model.proofs.Committed.{Ended, alone, IsNew, WasThere, WereThere, new_or_old, next_or_both, still_linked, last_now, now_listed}
 use Rattle.ground_model.proofs.HeldWrites.{version_of, past_end, not_kept}
 use Rattle.ground_model.proofs.LineSteps.{linking_stays}
+use Rattle.ground_model.proofs.MadeOf.{made_of_stays, rewritten_top}
 use Rattle.ground_model.proofs.Turning.{same_laid}
 
 same_or_not : (m n : ℕ) → (m ≡ n) ⊎ (m ≢ n)
@@ -43,7 +44,7 @@ same_or_not m n = grind arith
 -- ---- pages
 
 -- a block that holds a version page shows its page
-version_page : (c : Content) (n : ℕ) (page : VersionValue) → version_in_block c n ≡ Some page → pages_of c n ≡ Some page.page
+pub version_page : (c : Content) (n : ℕ) (page : VersionValue) → version_in_block c n ≡ Some page → pages_of c n ≡ Some page.page
 version_page c n page is = (let b = bytes_of (c n) page is in (reads_version c n b.bytes page b.holds b.reads).page.is)
 
 -- writing a version page with another commit reference leaves the page that every block shows
@@ -60,7 +61,7 @@ ok_is x y h = cc
 -- ---- what the turn made
 
 module _ (k : ℕ) (old new : Scene) (shared : IsShared old) (l : IsLinkSet k old new) (noted : IsNoted k old.standing new.standing l.next.object l.next.version)
-    (latest : IsLatest old l.next.object l.next.version) where
+    (latest : IsLatest old l.next.object l.next.version) (walked : IsMadeOf old.content noted.news l.next.base.block l.next.version.block) where
   next : NextVersion old.content old.store old.places
   next = l.next
 
@@ -117,61 +118,61 @@ module _ (k : ℕ) (old new : Scene) (shared : IsShared old) (l : IsLinkSet k ol
       back (inl was) = kept_at n ∙ ap (λ s. cond (is_held k s) Kept s) was
       back (inr held) = kept_at n ∙ ap (λ s. cond (is_held k s) Kept s) held ∙ ap (λ b. cond b Kept (Held k)) self
 
+  kept_forth : (n : ℕ) → (state_at old.states n ≡ Kept → (n ≡ 0) ⊎ IsPlace old.places n ⊎ IsPlace old.freed n) → (state_at old.states n ≡ Kept) ⊎ IsHeldBy old k n
+      → (n ≡ 0) ⊎ IsPlace new.places n ⊎ IsPlace new.freed n
+  kept_forth n was (inl is) = of (was is)
+    where
+      of : (n ≡ 0) ⊎ IsPlace old.places n ⊎ IsPlace old.freed n → (n ≡ 0) ⊎ IsPlace new.places n ⊎ IsPlace new.freed n
+      of (inl e) = inl e
+      of (inr (inl e)) = inr (inl ((place_is n).1 (inl e)))
+      of (inr (inr e)) = inr (inr (subst (λ ns. IsPlace ns n) (sym l.freed) e))
+  kept_forth n was (inr held) = inr (inl ((place_is n).1 (inr held)))
+
+  kept_back : (n : ℕ) → ((n ≡ 0) ⊎ IsPlace old.places n ⊎ IsPlace old.freed n → state_at old.states n ≡ Kept) → (n ≡ 0) ⊎ IsPlace new.places n ⊎ IsPlace new.freed n
+      → state_at new.states n ≡ Kept
+  kept_back n was (inl e) = (kept_where n).1 (inl (was (inl e)))
+  kept_back n was (inr (inl e)) = of ((place_is n).0 e)
+    where
+      of : IsPlace old.places n ⊎ IsHeldBy old k n → state_at new.states n ≡ Kept
+      of (inl p) = (kept_where n).1 (inl (was (inr (inl p))))
+      of (inr h) = (kept_where n).1 (inr h)
+  kept_back n was (inr (inr e)) = (kept_where n).1 (inl (was (inr (inr (subst (λ ns. IsPlace ns n) l.freed e)))))
+
+  freed_not_new : (n : ℕ) → IsFree old.store old.places n → IsPlace old.freed n → IsPlace old.places n ⊎ IsHeldBy old k n → ⊥
+  freed_not_new n f is (inl p) = true≢false (sym p ∙ f.free)
+  freed_not_new n f is (inr h) =
+      not_kept old shared.map k n h ((shared.map.kept n (past_end old.states n k h)).1 (inr (inr is)))
+
+  held_then : (j : ℕ) → (j ≡ k) ⊎ (j ≢ k) → held_count j new.states ≡ held_by new.standing j
+  held_then j (inl e) =
+      ap (λ (i : ℕ). held_count i new.states) e ∙ held_count-Replaces k Kept old.states new.states l.kept refl
+      ∙ sym (mine_none k l.low noted.held) ∙ ap (held_by new.standing) (sym e)
+    where
+      mine_none : (i : ℕ) → 1 ≤ i → (client_of new.standing i).held ≡ 0 → held_by new.standing i ≡ 0
+      mine_none zero low h = refl
+      mine_none (suc i) low h = h
+  held_then zero (inr ne) = held_count-Replaces-others k zero Kept old.states new.states l.kept refl ne ∙ shared.map.held zero
+  held_then (suc j) (inr ne) =
+      held_count-Replaces-others k (suc j) Kept old.states new.states l.kept refl ne ∙ shared.map.held (suc j)
+      ∙ ap (λ (c : Client). c.held) (sym (noted.others (suc j) (omega arith) ne))
+
   map_is : IsMapped new
   map_is = record {
     size = l.kept.size ∙ shared.map.size ∙ sym blocks_is;
     kept = λ n low.
         let was = shared.map.kept n (subst (λ m. n < m) l.kept.size low) in
-        (λ is. forth n was.0 ((kept_where n).0 is), λ is. back n was.1 is);
-    held = λ j. held_so j (same_or_not j k);
+        (λ is. kept_forth n was.0 ((kept_where n).0 is), λ is. kept_back n was.1 is);
+    held = λ j. held_then j (same_or_not j k);
     freed = λ n is.
         let f : IsFree old.store old.places n = shared.map.freed n (subst (λ ns. IsPlace ns n) l.freed is) in
         record {
           low = f.low;
           high = subst (λ m. n < m) (sym blocks_is) f.high;
-          free = not_in new.places n (λ place. not_new n f (subst (λ ns. IsPlace ns n) l.freed is) ((place_is n).0 place));
+          free = not_in new.places n (λ place. freed_not_new n f (subst (λ ns. IsPlace ns n) l.freed is) ((place_is n).0 place));
         };
     once = subst (λ ns. IsDistinct nat_eq ns) (sym l.freed) shared.map.once;
     frees = ap length l.freed ∙ shared.map.frees ∙ ap (λ (o : Option Upkeep). option_map_or (λ (up : Upkeep). up.frees) o 0) (sym noted.upkeep);
   }
-    where
-      forth : (n : ℕ) → (state_at old.states n ≡ Kept → (n ≡ 0) ⊎ IsPlace old.places n ⊎ IsPlace old.freed n) → (state_at old.states n ≡ Kept) ⊎ IsHeldBy old k n
-          → (n ≡ 0) ⊎ IsPlace new.places n ⊎ IsPlace new.freed n
-      forth n was (inl is) = of (was is)
-        where
-          of : (n ≡ 0) ⊎ IsPlace old.places n ⊎ IsPlace old.freed n → (n ≡ 0) ⊎ IsPlace new.places n ⊎ IsPlace new.freed n
-          of (inl e) = inl e
-          of (inr (inl e)) = inr (inl ((place_is n).1 (inl e)))
-          of (inr (inr e)) = inr (inr (subst (λ ns. IsPlace ns n) (sym l.freed) e))
-      forth n was (inr held) = inr (inl ((place_is n).1 (inr held)))
-
-      back : (n : ℕ) → ((n ≡ 0) ⊎ IsPlace old.places n ⊎ IsPlace old.freed n → state_at old.states n ≡ Kept) → (n ≡ 0) ⊎ IsPlace new.places n ⊎ IsPlace new.freed n
-          → state_at new.states n ≡ Kept
-      back n was (inl e) = (kept_where n).1 (inl (was (inl e)))
-      back n was (inr (inl e)) = of ((place_is n).0 e)
-        where
-          of : IsPlace old.places n ⊎ IsHeldBy old k n → state_at new.states n ≡ Kept
-          of (inl p) = (kept_where n).1 (inl (was (inr (inl p))))
-          of (inr h) = (kept_where n).1 (inr h)
-      back n was (inr (inr e)) = (kept_where n).1 (inl (was (inr (inr (subst (λ ns. IsPlace ns n) l.freed e)))))
-
-      not_new : (n : ℕ) → IsFree old.store old.places n → IsPlace old.freed n → IsPlace old.places n ⊎ IsHeldBy old k n → ⊥
-      not_new n f is (inl p) = true≢false (sym p ∙ f.free)
-      not_new n f is (inr h) =
-          not_kept old shared.map k n h ((shared.map.kept n (past_end old.states n k h)).1 (inr (inr is)))
-
-      held_so : (j : ℕ) → (j ≡ k) ⊎ (j ≢ k) → held_count j new.states ≡ held_by new.standing j
-      held_so j (inl e) =
-          ap (λ (i : ℕ). held_count i new.states) e ∙ held_count-Replaces k Kept old.states new.states l.kept refl
-          ∙ sym (mine_none k l.low noted.held) ∙ ap (held_by new.standing) (sym e)
-        where
-          mine_none : (i : ℕ) → 1 ≤ i → (client_of new.standing i).held ≡ 0 → held_by new.standing i ≡ 0
-          mine_none zero low h = refl
-          mine_none (suc i) low h = h
-      held_so zero (inr ne) = held_count-Replaces-others k zero Kept old.states new.states l.kept refl ne ∙ shared.map.held zero
-      held_so (suc j) (inr ne) =
-          held_count-Replaces-others k (suc j) Kept old.states new.states l.kept refl ne ∙ shared.map.held (suc j)
-          ∙ ap (λ (c : Client). c.held) (sym (noted.others (suc j) (omega arith) ne))
 
   -- ---- versions
 
@@ -263,6 +264,54 @@ module _ (k : ℕ) (old new : Scene) (shared : IsShared old) (l : IsLinkSet k ol
           inl (subst F (sym is) (still_linked old.store l.next.object l.next.block l.next.version l.next.file l.next.base l.next.listed l.next.last linked_before))
       of o file (inr (ne, listed)) = elim (shared.links.links o file listed) [ inl set ↦ inl set | inr x ↦ inr (linked_on (suc o) x) ]
 
+  -- ---- walks
+
+  pages_same : (n : ℕ) → pages_of new.content n ≡ pages_of old.content n
+  pages_same = rewrites_pages old.content new.content l.next.base.block (with_commit l.next.block) (λ x. refl) l.rewrites
+
+  made_still : (m : Made) (base root : ℕ) → IsMadeOf old.content m base root → IsMadeOf new.content m base root
+  made_still m base root h =
+      made_of_stays old.content new.content m base root (λ p n at. pages_same n) (λ p n at. pages_same n)
+      (rewritten_top old.content new.content l.next.base.block (with_commit l.next.block) (λ v. refl) (λ v. refl) l.rewrites root) h
+
+  made_of_all : AreMadeOf new
+  made_of_all i place m file before version at low listed first second serial = by (file_now (m.object - 1) file listed) (known i m at)
+    where
+      here : m.object - 1 ≡ l.next.object → (m ≡ noted.news) ⊎ (slice_get old.standing.made i ≡ Some m)
+          → ((version ≡ l.next.version) × (before.block ≡ l.next.base.block)) ⊎ WereThere l.next.file place before version → IsMadeOf new.content m before.block version.block
+      here e (inl news) (inl (v, b)) =
+          subst (λ x. IsMadeOf new.content x before.block version.block) (sym news)
+          (subst (λ n. IsMadeOf new.content noted.news n version.block) (sym b)
+          (subst (λ n. IsMadeOf new.content noted.news l.next.base.block n) (ap (λ (x : LaidVersion). x.block) (sym v)) (made_still noted.news l.next.base.block l.next.version.block walked)))
+      here e (inl news) (inr w) = absurd (let
+          below : w.second.serial < l.next.version.serial =
+          latest w.second (record {
+            file = l.next.file;
+            place = suc place;
+            counts = omega arith;
+            listed = (let same : suc l.next.object - 1 ≡ l.next.object = omega arith in ap (slice_get old.store.files) same ∙ l.next.listed);
+            kept = w.at_second;
+          }) in
+          let one : m.serial ≡ l.next.version.serial = ap (λ (x : Made). x.serial) news ∙ noted.serial in
+          let two = w.serial in
+          omega (arith, below, one, two, serial))
+      here e (inr was) (inl (v, b)) = absurd (let
+          below : m.serial < l.next.version.serial = noted.late m (from_place old.standing.made m i was) (omega (arith, e, low)) in
+          let one : version.serial ≡ l.next.version.serial = ap (λ (x : LaidVersion). x.serial) v in
+          omega (arith, below, one, serial))
+      here e (inr was) (inr w) =
+          let old_one : IsMadeOf old.content m w.first.block w.second.block =
+          shared.made_of i place m l.next.file w.first w.second was low (ap (slice_get old.store.files) e ∙ l.next.listed) w.at_first w.at_second (sym w.serial ∙ serial) in
+          subst (λ n. IsMadeOf new.content m n version.block) (sym w.first_block) (subst (λ n. IsMadeOf new.content m w.first.block n) (sym w.second_block) (made_still m w.first.block w.second.block old_one))
+
+      by : ((m.object - 1 ≡ l.next.object) × (file ≡ file_committed l.next.block l.next.version l.next.file)) ⊎ ((m.object - 1 ≢ l.next.object) × (slice_get old.store.files (m.object - 1) ≡ Some file))
+          → (m ≡ noted.news) ⊎ (slice_get old.standing.made i ≡ Some m) → IsMadeOf new.content m before.block version.block
+      by (inl (e, is)) which =
+          here e which (next_or_both old.store l.next.object l.next.block l.next.version l.next.file l.next.base l.next.listed l.next.last place before version
+          (ap (λ (f : LaidFile). slice_get f.versions place) (sym is) ∙ first) (ap (λ (f : LaidFile). slice_get f.versions (suc place)) (sym is) ∙ second))
+      by (inr (ne, there)) (inl news) = absurd (let object : m.object ≡ suc l.next.object = ap (λ (x : Made). x.object) news ∙ noted.of_object in ne (omega (arith, object)))
+      by (inr (ne, there)) (inr was) = made_still m before.block version.block (shared.made_of i place m file before version was low there first second serial)
+
   -- ---- the whole
 
   pub link_shared : IsShared new
@@ -272,6 +321,7 @@ module _ (k : ℕ) (old new : Scene) (shared : IsShared old) (l : IsLinkSet k ol
     state = state_is;
     map = map_is;
     made = as_made;
+    made_of = made_of_all;
     links = links_are;
   }
 

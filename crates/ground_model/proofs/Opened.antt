@@ -169,6 +169,7 @@ module _ {D : Type 0} (b : Ghosts D) (o : OpenedOver D) (scripts : Scripts) (is 
     state = refl;
     map = map_is;
     made = λ k m version at. absurd (let no : None ≡ Some m = at in cc);
+    made_of = λ k place m file before version at. absurd (let no : None ≡ Some m = at in cc);
     links = links_are;
   }
 

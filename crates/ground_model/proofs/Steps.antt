@@ -37,10 +37,10 @@ held_write_leads k block old content shared write = record {
 }
 
 pub link_leads : LinkLeads
-link_leads k old new shared l noted latest = record {
-  shared = link_shared k old new shared l noted latest;
-  versions = link_versions k old new shared l noted latest;
-  leaves = link_leaves k old new shared l noted latest;
+link_leads k old new shared l noted latest walked = record {
+  shared = link_shared k old new shared l noted latest walked;
+  versions = link_versions k old new shared l noted latest walked;
+  leaves = link_leaves k old new shared l noted latest walked;
 }
 
 -- ---- one step after the other

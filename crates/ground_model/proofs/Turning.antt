@@ -12,9 +12,9 @@ use Rattle.store_model.specs.Found.{LaidStore, laid, state_in}
 use Rattle.store_model.specs.Walk.{Refused}
 use Rattle.tree_model.specs.States.{State}
 use Rattle.ground_model.specs.Fronts.{AllFronts, TurnLeaves}
-use Rattle.ground_model.specs.Runs.{Stands, IsTurn, IsOneOperation, TurnStands, images_of}
+use Rattle.ground_model.specs.Runs.{Stands, IsTurn, IsOneOperation, RunRecovers, TurnStands, images_of}
 use Rattle.ground_model.specs.Scenes.{Scene, IsShared}
-use Rattle.ground_model.proofs.Fronts.{turn_recovers, all_by}
+use Rattle.ground_model.proofs.Fronts.{turn_recovers, turns_recover, all_by}
 use Rattle.ground_model.proofs.Writes.{SameBelow, read_leaves, write_leaves}
 
 -- what one walk over a store found is what another one finds
@@ -109,3 +109,8 @@ module _ {D : Type 0} (b : Ghosts D) (settled_left : (s : D) (n : ℕ) (f : Cont
 pub turn_stands : {D : Type 0} (b : Ghosts D) → ((s : D) (n : ℕ) (f : Content) → b.settled_always s n → b.may_leave s (b.moment s) f → f n ≡ b.content s n) → TurnStands b
 turn_stands b settled_left opening scripts first old new before after es fs st turn shared =
     turn_stands_here b settled_left opening scripts first old new before after es fs st turn shared
+
+-- ---- any number of turns
+
+pub run_recovers : {D : Type 0} (b : Ghosts D) → RunRecovers b
+run_recovers b most opening scripts first d es turns = turns_recover opening scripts (images_of b most) first d es turns

@@ -4,7 +4,8 @@ use Rattle.script_text.specs.declared.command.Command.TheVariants.{Commit}
 use Rattle.script_text.specs.declared.reply.LineReply.TheVariants as reply
 use Rattle.script_text.specs.declared.script.Line.{Line}
 use Rattle.service_model.specs.declared.journal.Refusal.{Refusal}
-use Rattle.service_model.specs.declared.journal.What.TheVariants.{Held, Committed, Refused, Answered}
+use Rattle.service_model.specs.declared.journal.What.TheVariants.{Held, Committed, Refused}
+use Rattle.service_model.specs.declared.journal.What.TheVariants.{Answered}
 use Rattle.service_model.specs.declared.named.Named.{Named}
 use Rattle.service_model.specs.Entries.{mode_of, noting, without_update}
 use Rattle.service_model.specs.Legal.{IsHoldable, IsLawfulWhat}

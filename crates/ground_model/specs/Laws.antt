@@ -10,11 +10,13 @@ use Rattle.store_changes.specs.Writes.{Content}
 use Rattle.tree_model.specs.States.{State}
 use Rattle.tree_model.specs.Trees.{Tree}
 use Rattle.version_chain.specs.Flush.{Plan, Base}
-use Rattle.ground_model.specs.Fronts.{Images, AllFronts, Turns, AreTurns, last_of, entries_of, is_by}
+use Rattle.ground_model.specs.Fronts.{Images, AllFronts, Turns, AreTurns, last_of, is_by}
+use Rattle.ground_model.specs.Fronts.{entries_of}
 use Rattle.ground_model.specs.Leaves.{Leaves, KeepsVersions, LeavesOthers}
 use Rattle.ground_model.specs.Own.{HasDraft, HasMerged, IsFlushing, IsResting}
-use Rattle.ground_model.specs.Scenes.{Scene, IsShared}
-use Rattle.ground_model.specs.Steps.{IsHeldWrite, IsLatest, IsLineStep, IsLinkSet, IsNoted, moved_to, with_content}
+use Rattle.ground_model.specs.Scenes.{Scene, IsMadeOf, IsShared}
+use Rattle.ground_model.specs.Steps.{IsHeldWrite, IsLatest, IsLineStep, IsLinkSet, IsNoted}
+use Rattle.ground_model.specs.Steps.{moved_to, with_content}
 
 -- ---- what others leave
 
@@ -62,8 +64,9 @@ HeldWriteLeads =
 abbrev pub LinkLeads : Type 0
 LinkLeads =
     (k : ℕ) (old new : Scene) → IsShared old → (l : IsLinkSet k old new)
-    → IsNoted k old.standing new.standing l.next.object l.next.version
+    → (noted : IsNoted k old.standing new.standing l.next.object l.next.version)
     → IsLatest old l.next.object l.next.version
+    → IsMadeOf old.content noted.news l.next.base.block l.next.version.block
     → Leads k old new
 
 -- ---- any number of turns

@@ -9,6 +9,7 @@ pub mod Lines
 pub mod Laws
 pub mod Commits
 pub mod Drafting
+pub mod Walking
 pub mod Quiet
 pub mod Turns
 pub mod Stops

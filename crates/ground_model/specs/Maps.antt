@@ -16,7 +16,8 @@ abbrev pub AreFixed : ℕ → List BlockState → List BlockState → Type 0
 AreFixed k old new =
     (n : ℕ) (s : BlockState) → IsFixed k s → (state_at old n ≡ s) ↔ (state_at new n ≡ s)
 
--- So it is where the client takes the least free blocks, and where it gives back those that it holds.
+-- So it is where the client takes the least free blocks, and where it gives back those that it
+-- holds.
 abbrev pub TakingIsFixed : Type 0
 TakingIsFixed = (k n : ℕ) (old new : List BlockState) → TakesLeast k n old new → AreFixed k old new
 

@@ -34,5 +34,7 @@ QuietTurnStands {D} b =
     → Stands b opening scripts first scene before es
     → IsQuietTurn b scripts k scene before after fs c
     → Stands b opening scripts first
-    (moved_to scene (b.content after) scene.states (after_entries scripts scene.standing fs)) after (es ++ fs)
-    × Leads k scene (moved_to scene (b.content after) scene.states (after_entries scripts scene.standing fs))
+    (moved_to scene (b.content after) scene.states (after_entries scripts scene.standing fs))
+    after (es ++ fs)
+    × Leads k scene
+    (moved_to scene (b.content after) scene.states (after_entries scripts scene.standing fs))

@@ -14,6 +14,7 @@ use Rattle.store_changes.specs.Writes.{Content}
 use Rattle.store_model.specs.Found.{found}
 use Rattle.tree_model.specs.States.{State}
 use Rattle.ground_model.specs.Fronts.{Images, AllFronts, AreOfTurn, is_by}
+use Rattle.ground_model.specs.Laws.{TurnsRecover}
 use Rattle.ground_model.specs.Scenes.{Scene, IsShared}
 
 -- What crashes leave of a store of blocks, as the files that are found.
@@ -82,3 +83,10 @@ TurnStands {D} b =
     → Stands b opening scripts first old before es → IsTurn b scripts old new before after fs
     → IsShared new
     → Stands b opening scripts first new after (es ++ fs)
+
+-- ---- any number of turns
+
+-- Whatever turns over a store of blocks follow one another: what a crash at any moment leaves is
+-- the state after a front of the journal, as of turns of any device.
+abbrev pub RunRecovers : {D : Type 0} → Ghosts D → Type 0
+RunRecovers b = (most : ℕ) → TurnsRecover (images_of b most)

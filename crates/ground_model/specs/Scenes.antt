@@ -1,5 +1,6 @@
 -- What all clients of a run see between two turns.
-use Rattle.std.specs.Prelude.{◌≡◌, ◌⊎◌, ◌↔◌, ℕ, zero, suc, ◌-◌, ◌<◌, ◌≤◌, true, nat_eq, List, length, Option, Some, slice_get}
+use Rattle.std.specs.Prelude.{◌≡◌, ◌⊎◌, ◌↔◌, ℕ, zero, suc, ◌-◌, ◌<◌, ◌≤◌, true, nat_eq, List, []}
+use Rattle.std.specs.Prelude.{length, Option, Some, Ok, slice_get}
 use Rattle.std.specs.List.{IsDistinct}
 use Rattle.std.specs.Option.{option_map_or}
 use Rattle.afs_base.specs.declared.head.Head.{Head}
@@ -7,17 +8,18 @@ use Rattle.block_map.specs.States.{state_at, held_count}
 use Rattle.block_map.specs.declared.states.BlockState.{BlockState}
 use Rattle.block_map.specs.declared.states.BlockState.TheVariants.{Kept}
 use Rattle.flush_model.specs.Flushed.{IsFree, IsMarked}
-use Rattle.page_codec.specs.Values.{MemberValue}
+use Rattle.joint_walk.specs.Later.{IsLater, AreMarks}
+use Rattle.page_codec.specs.Values.{MemberValue, VersionValue}
 use Rattle.recovery.specs.Opening.{heads_of}
 use Rattle.service_model.specs.Sound.{HasNoted, IsOpenAt, is_committing}
 use Rattle.service_model.specs.Standing.{Standing, Update, Made, Upkeep, client_of, has_file}
 use Rattle.store_changes.specs.Stands.{IsPlace}
 use Rattle.store_changes.specs.Writes.{Content}
-use Rattle.store_model.specs.Changes.{IsLinked, IsTop}
+use Rattle.store_model.specs.Changes.{IsLinked, IsTop, version_in_block}
 use Rattle.store_model.specs.Found.{LaidStore, laid, state_in, version_in}
 use Rattle.store_model.specs.Laid.{LaidFile, LaidVersion, Node, page_in}
+use Rattle.store_model.specs.Laws.{pages_of}
 use Rattle.tree_model.specs.Trees.{tree_after}
-use Rattle.std.specs.Prelude.{Ok, []}
 
 -- What the blocks of halves of this size hold; the store that they stand for, and the places that
 -- it lies in; the map of blocks; the blocks that maintenance under way will free; and what stands
@@ -56,6 +58,26 @@ AreAsMade scene =
     (k : ℕ) (m : Made) (version : LaidVersion) → slice_get scene.standing.made k ≡ Some m
     → (has : HasVersion scene.store m.object version) → version.serial ≡ m.serial → 1 ≤ has.place
     → IsAsMade m version
+
+-- What a walk asks of a version in block `root` that an update of this run made of the one in
+-- block `base`: its pages lie as the update left them, and its version page names the base, and
+-- carries the marks of `/`.
+pub record IsMadeOf (content : Content) (m : Made) (base root : ℕ) : Type 0 where
+  pub later : IsLater (pages_of content) base root m.before m.steps
+  pub page : VersionValue
+  pub held : version_in_block content root ≡ Some page
+  pub base_is : page.base ≡ Some base
+  pub marks : AreMarks m.before m.steps [] page.root
+
+-- So is each version that a commit of this run made, where it and the one before it are still kept.
+abbrev pub AreMadeOf : Scene → Type 0
+AreMadeOf scene =
+    (k place : ℕ) (m : Made) (file : LaidFile) (before version : LaidVersion)
+    → slice_get scene.standing.made k ≡ Some m → 1 ≤ m.object
+    → slice_get scene.store.files (m.object - 1) ≡ Some file
+    → slice_get file.versions place ≡ Some before
+    → slice_get file.versions (suc place) ≡ Some version → version.serial ≡ m.serial
+    → IsMadeOf scene.content m before.block version.block
 
 -- ---- links
 
@@ -106,14 +128,15 @@ pub record IsMapped (scene : Scene) : Type 0 where
 -- ---- the whole
 
 -- What all clients share: the contents stand for the store, which has the state that the journal
--- leads to; the map knows each block; versions that were made are as they were made; and links are
--- outstanding only while they are set.
+-- leads to; the map knows each block; versions that were made are as they were made, so that walks
+-- may go over them; and links are outstanding only while they are set.
 pub record IsShared (scene : Scene) : Type 0 where
   pub some : 0 < scene.store.root.blocks
   pub laid : laid scene.content scene.most [] ≡ Ok (scene.store, scene.places)
   pub state : state_in scene.store ≡ scene.standing.state
   pub map : IsMapped scene
   pub made : AreAsMade scene
+  pub made_of : AreMadeOf scene
   pub links : AreLinksOf scene.store scene.standing
 
 -- What is told of the last version of each object is so.

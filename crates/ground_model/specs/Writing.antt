@@ -48,7 +48,8 @@ WriteTurnStands {D} b =
     → Stands b opening scripts first
     (moved_to scene (b.content after) states (after_entries scripts scene.standing fs)) after
     (es ++ fs)
-    × Leads k scene (moved_to scene (b.content after) states (after_entries scripts scene.standing fs))
+    × Leads k scene
+    (moved_to scene (b.content after) states (after_entries scripts scene.standing fs))
 
 -- ---- the flush
 

@@ -1,15 +1,19 @@
 ghost use Rattle.std.specs.Prelude.{◌≡◌};
 ghost use Rattle.ground_model.specs.CommitLines.{CommitIsAnswered, HoldingIsNoted, RefusalIsNoted};
 ghost use Rattle.ground_model.specs.Commits.{CommitLinks};
-ghost use Rattle.ground_model.specs.Drafting.{BeginsDraft, DraftStays, FedDraft, MergeBegins, MergeGoesOn, SteppedDraft, WantedLies};
-ghost use Rattle.ground_model.specs.Laws.{HeldWriteLeads, LeavesGoOn, LeftIsKept, LineStepLeads, LinkLeads};
-ghost use Rattle.ground_model.specs.Lines.{AbandonIsNoted, BeginIsNoted, RefusedIsNoted, StepIsNoted};
+ghost use Rattle.ground_model.specs.Drafting.{BeginsDraft, DraftStays, FedDraft, SteppedDraft};
+ghost use Rattle.ground_model.specs.Drafting.{MergeBegins, MergeGoesOn, WantedLies};
+ghost use Rattle.ground_model.specs.Laws.{HeldWriteLeads, LineStepLeads, LinkLeads};
+ghost use Rattle.ground_model.specs.Laws.{LeavesGoOn, LeftIsKept};
+ghost use Rattle.ground_model.specs.Lines.{AbandonIsNoted, BeginIsNoted, RefusedIsNoted};
+ghost use Rattle.ground_model.specs.Lines.{StepIsNoted};
 ghost use Rattle.ground_model.specs.Maps.{EndIsNoted, GivingIsFixed, TakingIsFixed};
 ghost use Rattle.ground_model.specs.Opened.{OpenedBegins};
 ghost use Rattle.ground_model.specs.Quiet.{QuietTurnStands};
-ghost use Rattle.ground_model.specs.Runs.{TurnStands};
+ghost use Rattle.ground_model.specs.Runs.{RunRecovers, TurnStands};
 ghost use Rattle.ground_model.specs.Stops.{ReadStops, WriteStops};
-ghost use Rattle.ground_model.specs.Turns.{LinkTurnStands};
+ghost use Rattle.ground_model.specs.Turns.{AnsweredLinkStands, LinkTurnStands};
+ghost use Rattle.ground_model.specs.Walking.{WalkCarries, WalkStarts, WalkStays, WalksMayBegin};
 ghost use Rattle.ground_model.specs.Writing.{FlushBegins, FlushGoesOn, WriteTurnStands};
 
 use pair_store::Blocks;
@@ -24,6 +28,13 @@ pub fn opened_begins<B: Blocks>()
 /// scene.
 pub fn turn_stands<B: Blocks>()
     ensures { B.tells → TurnStands B.Blocks }
+{}
+
+/// Runs nothing. Its contract: whatever turns follow one another, a crash at any moment leaves the
+/// state after a front of the journal, with each entry that was acknowledged by then, and at most
+/// one more that changes the state.
+pub fn turns_recover<B: Blocks>()
+    ensures { RunRecovers B.Blocks }
 {}
 
 /// Runs nothing. Its contract: a client that is left what it relies on has its drafts and its flush
@@ -78,6 +89,16 @@ pub fn merges_go_on()
     ensures on { MergeGoesOn }
 {}
 
+/// Runs nothing. Its contract: where a draft is merged with an earlier version than its file's
+/// last, a walk over the next version may begin; it stays under way where both versions show their
+/// pages, and where it ends without a clash the draft is merged with that version too.
+pub fn walks_go_on()
+    ensures begins { WalksMayBegin }
+    ensures starts { WalkStarts }
+    ensures stays { WalkStays }
+    ensures carries { WalkCarries }
+{}
+
 /// Runs nothing. Its contract: where an update of one file is merged with every version of it, and
 /// written, setting its link leads to a scene, and its commit may be noted.
 pub fn commit_links()
@@ -93,6 +114,11 @@ pub fn quiet_turn_stands<B: Blocks>()
 /// file.
 pub fn link_turn_stands<B: Blocks>()
     ensures { B.tells → LinkTurnStands B.Blocks }
+{}
+
+/// Runs nothing. Its contract: so it does where the commit is answered in that turn.
+pub fn answered_link_stands<B: Blocks>()
+    ensures { B.tells → AnsweredLinkStands B.Blocks }
 {}
 
 /// Runs nothing. Its contract says what a commit's line notes: that blocks are held, that the
