@@ -1,5 +1,5 @@
 -- What is written is one spelling, and reads as what was meant; and the places are those of live pages, that of `/` first.
-use Rattle.std.proofs.Common.{◌≡◌, ℕ, zero, suc, ◌+◌, ◌<◌, true, false, not, ◌||◌, nat_eq, List, [], ◌∷◌, ◌++◌, inl, inr, refl, sym, ap, subst, ◌∙◌, Option, Some, arith, eqb-true}
+use Rattle.std.proofs.Common.{◌≡◌, ℕ, zero, suc, ◌+◌, ◌<◌, true, false, not, ◌||◌, cond, nat_eq, List, [], ◌∷◌, ◌++◌, inl, inr, refl, sym, ap, subst, ◌∙◌, Option, Some, arith, eqb-true}
 use Rattle.std.specs.Option.{option_map_or}
 use Rattle.std.specs.List.{slice_get, list_all}
 use Rattle.std.specs.Ordering.{is_lt}
@@ -17,7 +17,7 @@ use Rattle.block_map.specs.declared.states.BlockState.{BlockState}
 use Rattle.page_places.specs.Places.{same}
 use Rattle.draft_model.specs.Views.{View, copies, live}
 use Rattle.draft_model.specs.Told.{IsFresh, are_rising, is_one_of, AreFresh}
-use Rattle.draft_model.specs.Flush.{Placed, IsPlaced, flushed_page, in_turn, is_block_of, are_apart}
+use Rattle.draft_model.specs.Flush.{Placed, IsPlaced, block_of, flushed_page, in_turn, is_block_of, are_apart}
 use Rattle.draft_model.proofs.Flushing.{written_told}
 use Rattle.version_chain.specs.Flush.{Plan, Base, paths_of, AreHeld, StartsAtRoot, IsPageFor, flushed_version, IsVersionFor, IsPageBlock, IsVersionBlock, IsWritten}
 use Rattle.version_chain.proofs.Written.{get_more}
@@ -134,3 +134,14 @@ apart states client from (x ∷ placed) held =
     both_true (not (is_block_of placed x.block)) (are_apart placed)
     (ap not (other_blocks states client x.block placed (from + 1) (omega (arith, (held 0 x refl).1)) (λ k y found. omega (arith, (held (suc k) y found).1))))
     (apart states client (from + 1) placed (λ k y found. ((held (suc k) y found).0, omega (arith, (held (suc k) y found).1))))
+
+-- the block of `/`, where the first place is its
+pub top_block : (placed : List Placed) (x : Placed) → StartsAtRoot placed → slice_get placed 0 ≡ Some x → block_of placed [] ≡ Some x.block
+top_block [] x starts_at at = absurd (cc at)
+top_block (y ∷ placed) x starts_at at =
+    let own : y ≡ x = some_is y x at in
+    let top : y.path ≡ [] = ap (λ (z : Placed). z.path) (some_is y (record { path = []; block = starts_at.0 }) starts_at.1) in
+    ap (λ p. cond (same [] p) (Some y.block) (block_of placed [])) top ∙ ap (λ (z : Placed). Some z.block) own
+  where
+    some_is : (a b : Placed) → Some a ≡ Some b → a ≡ b
+    some_is a b h = cc h

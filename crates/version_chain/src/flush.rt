@@ -3,7 +3,7 @@ ghost use Rattle.block_map.specs.States.{held_count};
 ghost use Rattle.tree_model.specs.Accesses.{written_paths};
 ghost use Rattle.draft_model.specs.Told.{are_rising};
 ghost use Rattle.draft_model.specs.Views.{copies, live};
-ghost use Rattle.draft_model.specs.Flush.{IsPlaced, are_apart, in_turn};
+ghost use Rattle.draft_model.specs.Flush.{IsPlaced, are_apart, block_of, in_turn};
 ghost use Rattle.version_chain.specs.Flush.{base_of, paths_of, AreHeld, StartsAtRoot, IsPlaceOf, IsVersionFor, IsWritten, GivesNext, IsDone};
 
 use crate::pages::page_for;
@@ -146,6 +146,15 @@ impl Flush {
     {
         let places = self.places.as_slice();
         places[own]
+    }
+
+    /// The block of the version page.
+    pub fn top(&self) -> BlockNo
+        requires { StartsAtRoot self.now.placed }
+        ensures { block_of self.now.placed [] ≡ Some result }
+    {
+        let place = self.place(0);
+        place.block
     }
 
     /// Writes the page of a place into a block: of `/` the version page.
