@@ -1,5 +1,5 @@
 -- A set of drafts: what it shows of each root, and what its calls leave.
-use Rattle.std.specs.Prelude.{◌≡◌, ◌≢◌, ℕ, ◌+◌, ◌<◌, length, slice_get, Option}
+use Rattle.std.specs.Prelude.{◌≡◌, ◌≢◌, ℕ, ◌+◌, ◌<◌, ◌≤◌, length, slice_get, Option}
 use Rattle.page_codec.specs.Values.{VersionValue}
 use Rattle.draft_model.specs.Views.{View}
 use Rattle.draft_model.specs.Entries.{shown}
@@ -56,8 +56,33 @@ pub record IsAdded (old new : PoolSet) (at : ℕ) (version : VersionValue) : Typ
   pub fed : new.fed ≡ old.fed
   pub frames : frames_in new ≡ frames_in old
 
+-- The set has one root, the version in block `at`, which is picked; no step is done, and no page was fed.
+pub record IsBegun (s : PoolSet) (at : ℕ) (version : VersionValue) : Type 0 where
+  pub roots : roots_of s ≡ 1
+  pub picked : picked_of s ≡ 0
+  pub view : view_at s (picked_of s) ≡ begun version.page
+  pub begins : Begins (view_at s (picked_of s)) at version.page
+  pub block : root_in (base_at s (picked_of s)) ≡ at
+  pub object : object_in (base_at s (picked_of s)) ≡ version.object
+  pub serial : serial_in (base_at s (picked_of s)) ≡ version.serial
+  pub count : s.count ≡ 0
+  pub fed : s.fed ≡ 0
+
 -- where a call leaves the others, each draft that is not picked shows what it showed, and has its base
 abbrev pub OthersLaw : Type 0
 OthersLaw =
     (s t : PoolSet) → others_of t ≡ others_of s → (k : ℕ) → k ≢ picked_of s
     → (view_at t k ≡ view_at s k) × (base_at t k ≡ base_at s k)
+
+-- Every set has at least 921 frames, and a call that leaves the others leaves it as many; the roots stay as many, and the picked one so.
+pub record FramesLaw : Type 0 where
+  pub enough : (s : PoolSet) → 921 ≤ frames_in s
+  pub frames : (s t : PoolSet) → others_of t ≡ others_of s → frames_in t ≡ frames_in s
+  pub roots : (s t : PoolSet) → others_of t ≡ others_of s → roots_of t ≡ roots_of s
+  pub picked : (s t : PoolSet) → others_of t ≡ others_of s → picked_of t ≡ picked_of s
+
+-- where a version was added to a set without roots and then picked, the set has that version alone
+abbrev pub BegunLaw : Type 0
+BegunLaw =
+    (s t u : PoolSet) (at : ℕ) (version : VersionValue) → roots_of s ≡ 0 → s.count ≡ 0 → s.fed ≡ 0
+    → IsAdded s t at version → picked_of u ≡ 0 → AreSameDrafts t u → IsBegun u at version

@@ -174,6 +174,19 @@ impl FramePages {
         }
     }
 
+    /// Lets go of the pages of all roots, and gives their frames back. The root that is picked stays so.
+    pub fn clear(&mut self)
+        ensures rows { self.new.rows ≡ [] }
+        ensures left { left self.new.run ≡ length self.old.rows + left self.old.run }
+        ensures pages { self.new.pages ≡ self.old.pages }
+        ensures root { self.new.root ≡ self.old.root }
+    {
+        let count = self.row_count();
+        for k in 0..count {
+            self.let_go(count - 1 - k);
+        }
+    }
+
     /// Gives all frames back.
     pub fn end(self) -> (Pool, Lease<Row>)
         ensures left { left result.1.run ≡ length self.rows + left self.run }
@@ -181,10 +194,7 @@ impl FramePages {
         ensures of { IsOf result.1.run (length result.0) }
     {
         let mut pages = self;
-        let count = pages.row_count();
-        for k in 0..count {
-            pages.let_go(count - 1 - k);
-        }
+        pages.clear();
         let FramePages {
             pool,
             lease,

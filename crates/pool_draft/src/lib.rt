@@ -11,7 +11,7 @@ mod row_writes;
 
 pub use base::Base;
 pub use frame_pages::FramePages;
-pub use laws::others_law;
+pub use laws::{begun_law, frames_law, others_law};
 pub use pool_draft::PoolDraft;
 pub use pool_set::{MAX_ROOTS, PoolSet};
 pub use row::Row;

@@ -41,8 +41,7 @@ impl PoolDraft {
             ≡ left lease.run }
     {
         let mut set = PoolSet::over(pool, lease);
-        let _added = set.add(at, version);
-        set.pick(0);
+        set.begin(at, version);
         PoolDraft { set }
     }
 

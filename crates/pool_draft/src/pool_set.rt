@@ -54,11 +54,12 @@ pub struct PoolSet {
     pages: FramePages,
     ghost most: { count ≤ 128 },
     ghost few: { fed ≤ 7 },
-    ghost drafts: { AreDrafts pages (length bases.items) count fed } by { AreDrafts-prop pages (length bases.items) count fed },
+    ghost drafts: { AreDrafts pages (length bases.items) count fed } by { AreDrafts-prop _ _ _ _ },
 }
 
 impl PoolSet {
-    ghost use Rattle.pool_draft.specs.Sets.{AreSameDrafts, IsAdded, base_at, frames_in, picked_of, roots_of};
+    ghost use Rattle.pool_draft.specs.Sets.{AreSameDrafts, IsAdded, IsBegun};
+    ghost use Rattle.pool_draft.specs.Sets.{base_at, frames_in, picked_of, roots_of};
 
     /// A set without roots in the frames of a lease of the pool, which can give at least 921.
     pub fn over(pool: Pool, lease: Lease<Row>) -> PoolSet
@@ -115,6 +116,41 @@ impl PoolSet {
         self.pages.pick(k);
     }
 
+    /// Lets go of all roots and of the steps that were done, so that all frames are back. Which number is picked stays.
+    pub fn clear(&mut self)
+        ensures roots { roots_of self.new ≡ 0 }
+        ensures counts { (⟦<PoolSet as Draft>⟧.count_of self.new ≡ 0)
+            × (⟦<PoolSet as Draft>⟧.fed_of self.new ≡ 0) }
+        ensures frames { frames_in self.new ≡ frames_in self.old }
+        ensures back { left self.new.pages.run ≡ frames_in self.old }
+        ensures picked { picked_of self.new ≡ picked_of self.old }
+    {
+        self.pages.clear();
+        self.bases.clear();
+        self.count = 0;
+        self.fed = 0;
+    }
+
+    /// Lets go of what the set had, and begins the draft of the version whose version page is given and lies in block `at`, which is not 0, as
+    /// its one root, which is picked.
+    pub fn begin(&mut self, at: BlockNo, version: &VersionPage)
+        requires { 0 < at }
+        ensures begun { IsBegun self.new at version.now }
+        ensures frames { frames_in self.new ≡ frames_in self.old }
+    {
+        self.clear();
+        let _added = self.add(at, version);
+        self.pick(0);
+    }
+
+    /// How many pages were fed since the set began or since its last step, at most seven.
+    pub fn fed(&self) -> u32
+        ensures value { result ≡ self.now.fed }
+        ensures most { result ≤ 7 }
+    {
+        self.fed
+    }
+
     /// How many frames the lease can still give. It is never spent: at most seven for each of 128 steps are out, one for each root and seven.
     pub fn left(&self) -> u32
         ensures value { result ≡ left self.now.pages.run }
@@ -149,7 +185,8 @@ impl PoolSet {
 
 impl Draft for PoolSet {
     ghost use Rattle.draft_model.specs.Entries.{shown, fresh_paths};
-    ghost use Rattle.pool_draft.specs.Roots.{OtherDrafts, fresh_ready, few_ready, root_in, object_in, serial_in};
+    ghost use Rattle.pool_draft.specs.Roots.{OtherDrafts, fresh_ready, few_ready};
+    ghost use Rattle.pool_draft.specs.Roots.{root_in, object_in, serial_in};
     ghost use Rattle.pool_draft.specs.Sets.{base_at, others_of, picked_of, roots_of, view_at};
 
     ghost view = { λ s. view_at s (picked_of s) };

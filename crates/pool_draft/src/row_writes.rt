@@ -16,7 +16,8 @@ use frame_pool::{Lease, Pool};
 pub fn change_row(pool: &mut Pool, rows: &mut Vec<Row>, k: usize, change: &Change)
     requires row { k < length rows.old.items }
     requires apart { AreApart (frames_of rows.old.items) }
-    requires frame { (r : RowSeen) → slice_get rows.old.items k ≡ Some r → r.frame < length pool.old }
+    requires frame { (r : RowSeen) → slice_get rows.old.items k ≡ Some r
+        → r.frame < length pool.old }
     requires fits { (r : RowSeen) → slice_get rows.old.items k ≡ Some r
         → FitsPage change.now (copied_in pool.old r) }
     ensures written { IsPageWritten pool.old rows.old.items k (after_change change.now)
@@ -31,7 +32,8 @@ pub fn change_row(pool: &mut Pool, rows: &mut Vec<Row>, k: usize, change: &Chang
 pub fn write_row(pool: &mut Pool, rows: &mut Vec<Row>, k: usize, copied: &CopiedPage)
     requires row { k < length rows.old.items }
     requires apart { AreApart (frames_of rows.old.items) }
-    requires frame { (r : RowSeen) → slice_get rows.old.items k ≡ Some r → r.frame < length pool.old }
+    requires frame { (r : RowSeen) → slice_get rows.old.items k ≡ Some r
+        → r.frame < length pool.old }
     ensures written { IsPageWritten pool.old rows.old.items k (λ _. copied.now)
         pool.new rows.new.items }
     ensures capacity { vec_capacity rows.new ≡ vec_capacity rows.old }
