@@ -15,7 +15,7 @@ use Rattle.service_model.specs.Entries.{after_entries, made_by}
 use Rattle.service_model.specs.Legal.{IsLegalFrom}
 use Rattle.service_model.specs.Replies.{serials_by}
 use Rattle.service_model.specs.Sound.{IsOpenAt, IsSound, is_starting}
-use Rattle.service_model.specs.Standing.{Scripts, Standing, Client, Update, Upkeep, Work, client_of, lines_of, need, next_line, start}
+use Rattle.service_model.specs.Standing.{Scripts, Standing, Client, Update, Upkeep, Work, client_of, lines_of, need, start}
 use Rattle.service_model.proofs.Keeps.{entry_keeps, journal_sound}
 use Rattle.store_changes.specs.Writes.{Content}
 use Rattle.tree_model.specs.States.{State}
@@ -57,7 +57,7 @@ module _ {D : Type 0} (b : Ghosts D) (settled_left : (s : D) (n : ℕ) (f : Cont
   made = made_by scene.standing.state u
 
   sound : IsSound scripts scene.standing
-  sound = journal_sound opening scripts es scene.standing st.fit st.sayable st.reaches
+  sound = journal_sound opening scripts es scene.standing st.fitting.fit st.sayable st.reaches
 
   early : scene.standing.moment ≤ b.moment after
   early =

@@ -22,7 +22,7 @@ module _ (k : ℕ) (old new : Scene) (leaves : Leaves k old new) where
     idle = λ up is mine. r.idle up ((leaves.upkeep up mine).1 is) mine;
   }
 
-  relied : (w : Work) (on : IsOn old.standing k w) (serial root : ℕ) (tree : Tree) → w.serial ≤ serial → (b : IsBase old w.object serial root tree) → IsReliedOn old k w b.version
+  pub relied : (w : Work) (on : IsOn old.standing k w) (serial root : ℕ) (tree : Tree) → w.serial ≤ serial → (b : IsBase old w.object serial root tree) → IsReliedOn old k w b.version
   relied w on serial root tree from b = record { on = on; is = b.is; from = subst (λ n. w.serial ≤ n) (sym b.serial_is) from }
 
   pub draft_stays : (w : Work) → IsOn old.standing k w → (root : ℕ) (d : View) → HasDraft old w root d → HasDraft new w root d

@@ -27,12 +27,12 @@ pub record LaidAs (store : LaidStore) (object : ℕ) (v : Version) : Type 0 wher
   pub is : version_in version ≡ v
 
 -- an item of a list behind one of its image
-record Behind {X Y : Type 0} (f : X → Y) (xs : List X) (k : ℕ) (y : Y) : Type 0 where
+pub record Behind {X Y : Type 0} (f : X → Y) (xs : List X) (k : ℕ) (y : Y) : Type 0 where
   pub item : X
   pub at : slice_get xs k ≡ Some item
   pub is : f item ≡ y
 
-behind : {X Y : Type 0} (f : X → Y) (xs : List X) (k : ℕ) (y : Y) → slice_get (map f xs) k ≡ Some y → Behind f xs k y
+pub behind : {X Y : Type 0} (f : X → Y) (xs : List X) (k : ℕ) (y : Y) → slice_get (map f xs) k ≡ Some y → Behind f xs k y
 behind {X} {Y} f xs k y e = by (slice_get xs k) refl
   where
     by : (o : Option X) → slice_get xs k ≡ o → Behind f xs k y

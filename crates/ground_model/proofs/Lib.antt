@@ -21,6 +21,7 @@ pub mod Heads
 pub mod Committing
 pub mod Drafting
 pub mod Walking
+pub mod Ahead
 pub mod QuietTurns
 pub mod LinkTurns
 pub mod AnsweredLinks
@@ -29,3 +30,18 @@ pub mod CommitLines
 pub mod Examples
 pub mod Writing
 pub mod Maps
+pub mod Causes
+pub mod HeadsTold
+pub mod Noted
+pub mod LineTurns
+pub mod HeldStops
+pub mod CommitFacts
+pub mod TableBlocks
+pub mod FreeBlocks
+pub mod Fitting
+pub mod LiveFiles
+pub mod Seals
+pub mod SealsStay
+pub mod Naming
+pub mod Shows
+pub mod Testing

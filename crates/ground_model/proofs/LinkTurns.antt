@@ -66,7 +66,7 @@ one_entry now e is = record {
 
 pub link_turn_stands : {D : Type 0} (b : Ghosts D) → ((s : D) (n : ℕ) (f : Content) → b.settled_always s n → b.may_leave s (b.moment s) f → f n ≡ b.content s n) → LinkTurnStands b
 link_turn_stands b settled_left opening scripts first k scene before after es line u w states st turn =
-    let sound : IsSound scripts scene.standing = journal_sound opening scripts es scene.standing st.fit st.sayable st.reaches in
+    let sound : IsSound scripts scene.standing = journal_sound opening scripts es scene.standing st.fitting.fit st.sayable st.reaches in
     let early : scene.standing.moment ≤ b.moment before =
     subst (λ (s : Standing). s.moment ≤ b.moment before) st.reaches.leads (moments_by scripts (start opening scripts) es (b.moment before) (omega arith) st.past) in
     let later = turn.put.images.later in

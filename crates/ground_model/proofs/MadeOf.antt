@@ -1,7 +1,7 @@
 -- What a walk asks of a version that was made: a flush makes it so, and it stays so where the blocks of both versions show what they showed.
 use Rattle.std.proofs.Common.{◌∷◌, ◌≡◌, ◌≢◌, ◌⊎◌, inl, inr, ℕ, List, [], length, Option, Some, refl, sym, ap, ◌∙◌, subst, arith}
 use Rattle.std.specs.Option.{option_and_then}
-use Rattle.draft_model.specs.Flush.{Placed, IsPlaced, Flushed, AreWhole, block_of, copied_flags, flushed_page}
+use Rattle.draft_model.specs.Flush.{IsPlaced, Flushed, AreWhole, block_of, copied_flags, flushed_page}
 use Rattle.draft_model.specs.Stands.{SameBase, StandsFor}
 use Rattle.draft_model.specs.Views.{Copied, View}
 use Rattle.draft_model.proofs.Keeping.{same_walk}

@@ -1,5 +1,5 @@
 -- A store as an opening leaves it, with no client begun, is a scene.
-use Rattle.std.proofs.Common.{◌≡◌, ◌⊎◌, inl, inr, ℕ, zero, suc, ◌-◌, ◌<◌, ◌≤◌, ◌||◌, ◌==◌, Bool, true, false, nat_eq, List, [], ◌∷◌, length, map, Some, None, Ok, refl, sym, ap, ◌∙◌, subst, arith, true≢false, eqb-true}
+use Rattle.std.proofs.Common.{◌≡◌, ◌⊎◌, inl, inr, ℕ, zero, suc, ◌-◌, ◌<◌, ◌≤◌, ◌||◌, ◌==◌, Bool, true, false, nat_eq, List, [], ◌∷◌, length, map, Some, None, Ok, refl, sym, ap, ◌∙◌, arith, true≢false, eqb-true}
 use Rattle.std.specs.Prelude.{slice_index_or}
 use Rattle.std.specs.List.{list_any, IsDistinct}
 use Rattle.std.proofs.lemmas.Option.{get_or_from_slice_get}
@@ -7,48 +7,23 @@ use Rattle.block_map.specs.States.{state_at, is_held, held_count}
 use Rattle.block_map.specs.declared.states.BlockState.{BlockState}
 use Rattle.block_map.specs.declared.states.BlockState.TheVariants.{Free, Kept}
 use Rattle.block_map.proofs.Counting.{count_by-pointwise, count_by-none}
-use Rattle.page_codec.specs.Causes.{first_cause, version_causes}
-use Rattle.page_codec.specs.Facts.{VersionFacts}
-use Rattle.page_codec.specs.Reading.{version_value}
-use Rattle.page_codec.specs.Values.{VersionValue}
-use Rattle.page_codec.proofs.FactLaws.{VersionFacts-none}
 use Rattle.pair_store.specs.declared.store.Blocks.{Ghosts}
 use Rattle.recovery.specs.declared.opened.OpenedOver.{OpenedOver}
 use Rattle.recovery.specs.Opening.{IsOpening}
 use Rattle.script_text.specs.ScriptValue.{ScriptValue}
-use Rattle.service_model.specs.Laws.{IsFit}
 use Rattle.service_model.specs.Sound.{AreSayable}
 use Rattle.service_model.specs.Standing.{Scripts, Client, newcomer, start, client_of}
 use Rattle.store_changes.specs.Writes.{Content}
 use Rattle.store_check.specs.Marks.{Marks, mark_of, is_kept}
 use Rattle.store_model.specs.Changes.{IsTop}
-use Rattle.store_model.specs.Found.{LaidStore, laid, found, state_in, state_of}
+use Rattle.store_model.specs.Found.{found, state_in, state_of}
 use Rattle.store_model.specs.Laid.{LaidVersion}
-use Rattle.store_model.specs.VersionPages.{HasItsPage}
-use Rattle.store_model.proofs.FoundStates.{versions_have_pages, found_is_state}
-use Rattle.store_model.proofs.Reading.{Uncaused, uncaused}
-use Rattle.store_model.proofs.Rewriting.{Bytes, bytes_of}
-use Rattle.tree_model.specs.States.{State, Version}
+use Rattle.tree_model.specs.States.{State}
 use Rattle.ground_model.specs.Fronts.{IsFront}
 use Rattle.ground_model.specs.Opened.{Begins, OpenedBegins}
-use Rattle.ground_model.specs.Scenes.{Scene, HasVersion, IsMapped, IsShared, AreLinksOf, held_by}
-use Rattle.ground_model.proofs.HeldWrites.{version_of as version_in_store}
-use Rattle.ground_model.proofs.Laying.{LaidAs, laid_as}
-
--- ---- serials begin with 1
-
-serial_at_least : (bytes : List ℕ) → VersionFacts bytes → 1 ≤ (version_value bytes).serial
-unfolding version_value
-serial_at_least bytes facts = facts.serial
-
-pub counted : (c : Content) (most : ℕ) (store : LaidStore) (places : List ℕ) → laid c most [] ≡ Ok (store, places)
-    → (object : ℕ) (version : LaidVersion) → HasVersion store object version → 1 ≤ version.serial
-counted c most store places e object version has =
-    let page : HasItsPage c (suc (object - 1)) version = versions_have_pages c most store places e version (version_in_store store object version has) in
-    let read : Bytes (c version.block) page.page = bytes_of (c version.block) page.page page.held in
-    let u : Uncaused (first_cause (version_causes read.bytes)) (version_value read.bytes) page.page = uncaused (first_cause (version_causes read.bytes)) (version_value read.bytes) page.page read.reads in
-    let low : 1 ≤ (version_value read.bytes).serial = serial_at_least read.bytes (VersionFacts-none read.bytes u.none) in
-    subst (λ n. 1 ≤ n) (ap (λ (v : VersionValue). v.serial) u.value ∙ page.serial) low
+use Rattle.ground_model.specs.Scenes.{Scene, IsMapped, IsShared, AreLinksOf, held_by}
+use Rattle.ground_model.proofs.Fitting.{opened_is_fitting}
+use Rattle.ground_model.proofs.Seals.{table_tells}
 
 -- ---- no client has begun
 
@@ -117,14 +92,6 @@ module _ {D : Type 0} (b : Ghosts D) (o : OpenedOver D) (scripts : Scripts) (is 
   found_now : found (b.content o.store) (b.size o.store) ≡ Ok (state_in is.opened.store)
   found_now = ap state_of is.opened.laid
 
-  fit : IsFit (state_in is.opened.store)
-  fit = record {
-    state = found_is_state (b.content o.store) (b.size o.store) (state_in is.opened.store) found_now;
-    counted = λ object v has.
-        let l : LaidAs is.opened.store object v = laid_as is.opened.store object v has in
-        subst (λ (x : Version). 1 ≤ x.serial) l.is (counted (b.content o.store) (b.size o.store) is.opened.store is.opened.places is.opened.laid object l.version l.has);
-  }
-
   map_is : IsMapped scene
   unfolding IsDistinct
   map_is = record {
@@ -190,7 +157,7 @@ module _ {D : Type 0} (b : Ghosts D) (o : OpenedOver D) (scripts : Scripts) (is 
       content = refl;
       most = refl;
       settled = λ n low. is.always n (let size = is.opened.size in omega (arith, size, low));
-      fit = fit;
+      fitting = opened_is_fitting (b.content o.store) (b.size o.store) o.table o.map o.heads.items is.opened;
       sayable = sayable;
       reaches = record { legal = tt; leads = refl };
       past = refl;
@@ -200,6 +167,7 @@ module _ {D : Type 0} (b : Ghosts D) (o : OpenedOver D) (scripts : Scripts) (is 
     starts = refl;
     map = refl;
     heads = is.opened.heads;
+    table = table_tells (b.content o.store) (b.size o.store) is.opened.store is.opened.places o.table is.opened.laid is.opened.table;
     resting = λ k client. record {
       client = client;
       fresh = ap (λ (c : Client). c.noted) (newcomers scripts (state_in is.opened.store) k);

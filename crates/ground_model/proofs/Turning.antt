@@ -99,7 +99,7 @@ module _ {D : Type 0} (b : Ghosts D) (settled_left : (s : D) (n : ℕ) (f : Cont
     content = turn.content;
     most = turn.most ∙ st.most ∙ sym size_same;
     settled = λ n low. settled_still n (st.settled n (subst (λ m. n < m) turn.blocks low));
-    fit = st.fit;
+    fitting = st.fitting;
     sayable = st.sayable;
     reaches = reaches;
     past = all_by (b.moment before) (b.moment after) es fs later st.past turn.moments.moments;

@@ -10,13 +10,12 @@ use Rattle.joint_walk.specs.Walks.{AllOf, IsJobAt, IsLast, IsWanted, Pair, Pendi
 use Rattle.page_codec.specs.Values.{VersionValue}
 use Rattle.page_merge.specs.Jobs.{JobValue}
 use Rattle.page_places.specs.Places.{Store}
-use Rattle.service_model.specs.Sound.{IsKnown, IsOn, IsSound}
-use Rattle.service_model.specs.Standing.{Made, Scripts, Standing, Work, serial_of, versions_of}
+use Rattle.service_model.specs.Sound.{IsKnown, IsSound}
+use Rattle.service_model.specs.Standing.{Scripts, Work, serial_of, versions_of}
 use Rattle.service_model.proofs.Members.{at_place}
 use Rattle.service_model.proofs.Versions.{IsLiveAt, live_at, live_serial, serial_at}
-use Rattle.store_model.specs.Changes.{version_in_block}
 use Rattle.store_model.specs.Found.{file_in, state_in, version_in}
-use Rattle.store_model.specs.Laid.{LaidFile, LaidVersion}
+use Rattle.store_model.specs.Laid.{LaidVersion}
 use Rattle.store_model.specs.Laws.{pages_of}
 use Rattle.store_model.specs.VersionPages.{HasItsPage}
 use Rattle.store_model.proofs.Edits.{some_is}
@@ -24,14 +23,13 @@ use Rattle.store_model.proofs.FoundStates.{versions_have_pages}
 use Rattle.tree_model.specs.Accesses.{Place}
 use Rattle.tree_model.specs.declared.step.Step.{Step}
 use Rattle.tree_model.specs.Merge.{ActsAlike}
-use Rattle.tree_model.specs.States.{File, IsState, State, Version}
+use Rattle.tree_model.specs.States.{File, IsState, State}
 use Rattle.tree_model.specs.Trees.{IsTree, Tree, tree_after}
 use Rattle.tree_model.proofs.Law.{law}
-use Rattle.ground_model.specs.Own.{HasMerged, IsBase}
+use Rattle.ground_model.specs.Own.{IsBase}
 use Rattle.ground_model.specs.Scenes.{Scene, HasVersion, IsMadeOf, IsShared}
 use Rattle.ground_model.specs.Walking.{IsAhead, WalkCarries, WalksMayBegin, WalkStarts, WalkStays}
 use Rattle.ground_model.proofs.Drafting.{merge_goes_on}
-use Rattle.ground_model.proofs.HeldWrites.{version_of}
 use Rattle.ground_model.proofs.Latest.{entry_is}
 use Rattle.ground_model.proofs.Laying.{stated}
 use Rattle.ground_model.proofs.Links.{version_page}

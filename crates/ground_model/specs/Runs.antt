@@ -6,7 +6,7 @@ use Rattle.pair_store.specs.Blocks.{OldOrNew, SameContents, SameOthers}
 use Rattle.pair_store.specs.declared.store.Blocks.{Ghosts}
 use Rattle.service_model.specs.declared.journal.Entry.{Entry}
 use Rattle.service_model.specs.Entries.{after_entries}
-use Rattle.service_model.specs.Laws.{IsFit}
+use Rattle.service_model.specs.Laws.{IsFitting}
 use Rattle.service_model.specs.Legal.{IsLegalFrom, Reaches}
 use Rattle.service_model.specs.Sound.{AreSayable}
 use Rattle.service_model.specs.Standing.{Scripts}
@@ -33,7 +33,7 @@ pub record Stands {D : Type 0} (b : Ghosts D) (opening : State) (scripts : Scrip
   pub content : scene.content ≡ b.content store
   pub most : scene.most ≡ b.size store
   pub settled : (n : ℕ) → n < scene.store.root.blocks → b.settled_always store n
-  pub fit : IsFit opening
+  pub fitting : IsFitting opening
   pub sayable : AreSayable scripts
   pub reaches : Reaches opening scripts es scene.standing
   pub past : list_all (is_by (b.moment store)) es ≡ true

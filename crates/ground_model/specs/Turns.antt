@@ -58,8 +58,8 @@ LinkTurnStands {D} b =
     (b.content after) states
     × HeadsGoOn scene new w.object turn.top (need u)
 
--- The scene after a link that was set and its commit that was answered: the client's update is over,
--- it has one answer more, and it holds no block.
+-- The scene after a link that was set and its commit that was answered: the client's update is
+-- over, it has one answer more, and it holds no block.
 pub record IsAnsweredLink (k : ℕ) (old new : Scene) (u : Update) (content : Content)
     (states : List BlockState) : Type 0 where
   pub content_is : new.content ≡ content

@@ -1,8 +1,11 @@
 ghost use Rattle.std.specs.Prelude.{◌≡◌};
+ghost use Rattle.ground_model.specs.Causes.{CauseOfAbandon, CauseOfBegin, CauseOfCommit};
+ghost use Rattle.ground_model.specs.Causes.{CauseOfIdleStep, CauseOfStep};
 ghost use Rattle.ground_model.specs.CommitLines.{CommitIsAnswered, HoldingIsNoted, RefusalIsNoted};
 ghost use Rattle.ground_model.specs.Commits.{CommitLinks};
 ghost use Rattle.ground_model.specs.Drafting.{BeginsDraft, DraftStays, FedDraft, SteppedDraft};
 ghost use Rattle.ground_model.specs.Drafting.{MergeBegins, MergeGoesOn, WantedLies};
+ghost use Rattle.ground_model.specs.Heads.{HeadsTell, NoHeadTells};
 ghost use Rattle.ground_model.specs.Laws.{HeldWriteLeads, LineStepLeads, LinkLeads};
 ghost use Rattle.ground_model.specs.Laws.{LeavesGoOn, LeftIsKept};
 ghost use Rattle.ground_model.specs.Lines.{AbandonIsNoted, BeginIsNoted, RefusedIsNoted};
@@ -10,8 +13,10 @@ ghost use Rattle.ground_model.specs.Lines.{StepIsNoted};
 ghost use Rattle.ground_model.specs.Maps.{EndIsNoted, GivingIsFixed, TakingIsFixed};
 ghost use Rattle.ground_model.specs.Opened.{OpenedBegins};
 ghost use Rattle.ground_model.specs.Quiet.{QuietTurnStands};
+ghost use Rattle.ground_model.specs.Room.{FreeIsCounted, OpenedIsFitting};
 ghost use Rattle.ground_model.specs.Runs.{RunRecovers, TurnStands};
 ghost use Rattle.ground_model.specs.Stops.{ReadStops, WriteStops};
+ghost use Rattle.ground_model.specs.Tables.{SealsStay, TableGoesOn, TableTells};
 ghost use Rattle.ground_model.specs.Turns.{AnsweredLinkStands, LinkTurnStands};
 ghost use Rattle.ground_model.specs.Walking.{WalkCarries, WalkStarts, WalkStays, WalksMayBegin};
 ghost use Rattle.ground_model.specs.Writing.{FlushBegins, FlushGoesOn, WriteTurnStands};
@@ -22,6 +27,48 @@ use pair_store::Blocks;
 /// which a run stands.
 pub fn opened_begins<B: Blocks>()
     ensures { OpenedBegins B.Blocks }
+{}
+
+/// Runs nothing. Its contract: the state of a store that was opened has no more blocks in use than
+/// there are, and its versions share what is not fresh in them.
+pub fn opened_is_fitting()
+    ensures { OpenedIsFitting }
+{}
+
+/// Runs nothing. Its contract: the table of a store that is found has for each object the seal that
+/// the object has in the state that is found.
+pub fn table_tells()
+    ensures { TableTells }
+{}
+
+/// Runs nothing. Its contract: by entries that make no file, remove none and take no version away
+/// the seals stay as they were, and so a table has those where the journal leads.
+pub fn seals_stay()
+    ensures seals { SealsStay }
+    ensures table { TableGoesOn }
+{}
+
+/// Runs nothing. Its contract: what is told of an object is so of its last version, and an object
+/// of which nothing is told is not live.
+pub fn heads_tell()
+    ensures told { HeadsTell }
+    ensures untold { NoHeadTells }
+{}
+
+/// Runs nothing. Its contract: the map of a scene has as many free blocks as are free where its
+/// journal leads.
+pub fn free_is_counted()
+    ensures { FreeIsCounted }
+{}
+
+/// Runs nothing. Its contract says why the lines of an update of one file are refused before
+/// anything is done for them.
+pub fn causes_are()
+    ensures begin { CauseOfBegin }
+    ensures idle { CauseOfIdleStep }
+    ensures step { CauseOfStep }
+    ensures commit { CauseOfCommit }
+    ensures abandon { CauseOfAbandon }
 {}
 
 /// Runs nothing. Its contract: a run that stands goes on to stand after each turn that leads to a

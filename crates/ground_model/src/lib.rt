@@ -4,10 +4,23 @@
 #![tactic(auto)]
 
 mod laws;
+mod line_laws;
+mod link_laws;
+mod page_laws;
+mod walk_laws;
 
 pub use laws::{
-    answered_link_stands, commit_links, commits_are_noted, drafts_go_on, end_is_noted,
-    flushes_go_on, held_write_leads, left_is_kept, line_step_leads, lines_are_noted, link_leads,
-    link_turn_stands, maps_are_fixed, merges_go_on, opened_begins, quiet_turn_stands,
-    stops_recover, turn_stands, turns_recover, walks_go_on, write_turn_stands,
+    answered_link_stands, causes_are, commit_links, commits_are_noted, drafts_go_on, end_is_noted,
+    flushes_go_on, free_is_counted, heads_tell, held_write_leads, left_is_kept, line_step_leads,
+    lines_are_noted, link_leads, link_turn_stands, maps_are_fixed, merges_go_on, opened_begins,
+    opened_is_fitting, quiet_turn_stands, seals_stay, stops_recover, table_tells, turn_stands,
+    turns_recover, walks_go_on, write_turn_stands,
 };
+pub use line_laws::{
+    answer_ends, commits_are_decided, empty_commit_is_noted, held_write_stops, line_turn_stands,
+    maps_step, moment_is_past, need_is_told, no_links_are_set, notes_go_on, read_turn_stands,
+    stands_stops, writes_are_told,
+};
+pub use link_laws::{commits_name_versions, links_are_in_doubt, links_are_tested};
+pub use page_laws::blocks_show_pages;
+pub use walk_laws::{versions_are_ahead, walks_are_left, walks_stay, walks_take_turns};
