@@ -39,7 +39,7 @@ short_cut root at (r ∷ rows) short = (short.0, short_cut root at rows short.1)
 
 more_cut : (own root : ℕ) (at : List ℕ) (rows : List Row) → more_rows own (map (cut_row root at) rows) ≡ more_rows own rows
 more_cut own root at [] = refl
-more_cut own root at (r ∷ rows) = ap (λ n. cond (nat_eq r.root own) n (suc n)) (more_cut own root at rows)
+more_cut own root at (r ∷ rows) = ap (λ n. cond (nat_eq r.key.root own) n (suc n)) (more_cut own root at rows)
 
 pub held_cut : (h : Held) (at : List ℕ) → IsHeld h → IsHeld (with_rows h h.pages (map (cut_row h.root at) h.rows))
 held_cut h at held =
@@ -80,19 +80,19 @@ shown_cut h at p =
 cut_other : (own root : ℕ) (at : List ℕ) (pages : List PageValue) → nat_eq root own ≡ false → (rows : List Row)
     → below own (forest pages (map (cut_row root at) rows)) ≡ below own (forest pages rows)
 cut_other own root at pages off [] = refl
-cut_other own root at pages off (r ∷ rows) = by (told (nat_eq r.root own)) (cut_other own root at pages off rows)
+cut_other own root at pages off (r ∷ rows) = by (told (nat_eq r.key.root own)) (cut_other own root at pages off rows)
   where
-    by : (nat_eq r.root own ≡ true) ⊎ (nat_eq r.root own ≡ false)
+    by : (nat_eq r.key.root own ≡ true) ⊎ (nat_eq r.key.root own ≡ false)
         → below own (forest pages (map (cut_row root at) rows)) ≡ below own (forest pages rows)
-        → cond (nat_eq r.root own) ((r.path, copied_in pages (cut_row root at r)) ∷ below own (forest pages (map (cut_row root at) rows))) (below own (forest pages (map (cut_row root at) rows)))
-        ≡ cond (nat_eq r.root own) ((r.path, copied_in pages r) ∷ below own (forest pages rows)) (below own (forest pages rows))
+        → cond (nat_eq r.key.root own) ((r.key.path, copied_in pages (cut_row root at r)) ∷ below own (forest pages (map (cut_row root at) rows))) (below own (forest pages (map (cut_row root at) rows)))
+        ≡ cond (nat_eq r.key.root own) ((r.key.path, copied_in pages r) ∷ below own (forest pages rows)) (below own (forest pages rows))
     by (inl e) rest =
-        let stays : nat_eq root r.root ≡ false = ap (nat_eq root) (eqb-true r.root own e) ∙ off in
-        (λ i. cond (nat_eq r.root own) ((r.path, copied_with (cond (stays i && is_prefix at r.path) (marks_away r.marks) r.marks) (slice_index_or pages r.frame (empty_page 0))) ∷ rest i) (rest i))
+        let stays : nat_eq root r.key.root ≡ false = ap (nat_eq root) (eqb-true r.key.root own e) ∙ off in
+        (λ i. cond (nat_eq r.key.root own) ((r.key.path, copied_with (cond (stays i && is_prefix at r.key.path) (marks_away r.marks) r.marks) (slice_index_or pages r.frame (empty_page 0))) ∷ rest i) (rest i))
     by (inr e) rest =
-        ap (λ b. cond b ((r.path, copied_in pages (cut_row root at r)) ∷ below own (forest pages (map (cut_row root at) rows))) (below own (forest pages (map (cut_row root at) rows)))) e
+        ap (λ b. cond b ((r.key.path, copied_in pages (cut_row root at r)) ∷ below own (forest pages (map (cut_row root at) rows))) (below own (forest pages (map (cut_row root at) rows)))) e
         ∙ rest
-        ∙ sym (ap (λ b. cond b ((r.path, copied_in pages r) ∷ below own (forest pages rows)) (below own (forest pages rows))) e)
+        ∙ sym (ap (λ b. cond b ((r.key.path, copied_in pages r) ∷ below own (forest pages rows)) (below own (forest pages rows))) e)
 
 pub beside_cut : (h : Held) (at : List ℕ) → beside (with_rows h h.pages (map (cut_row h.root at) h.rows)) ≡ beside h
 beside_cut h at =

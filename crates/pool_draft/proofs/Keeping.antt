@@ -25,12 +25,12 @@ use Rattle.pool_draft.proofs.Written.{trees_same, eq_sym}
 -- ---- one row
 
 -- a row of the picked root, below `/`, stays where its page was accessed
-pub stays_accessed : (h j : Held) (k : ℕ) (r : Row) (c : Copied) (b : Bool) → h ≡ j → k < length j.rows → r ≡ get_or h.rows k r → r.root ≡ h.root → r.path ≢ []
+pub stays_accessed : (h j : Held) (k : ℕ) (r : Row) (c : Copied) (b : Bool) → h ≡ j → k < length j.rows → r ≡ get_or h.rows k r → r.key.root ≡ h.root → r.key.path ≢ []
     → option_map (copied_in j.pages) (slice_get j.rows k) ≡ Some c → b ≡ is_accessed c → IfSome (slice_get j.rows k) (λ x. b ≡ row_stays j.root j.pages x)
 stays_accessed h j k r c b held within is own deep looked told_is =
     let at = row_here h j k r held within is in
-    let root : nat_eq r.root j.root ≡ true = eq-eqb r.root j.root (own ∙ ap (λ (x : Held). x.root) held) in
-    let below_top : same r.path [] ≡ false = false_if (same r.path []) (λ e. absurd (deep (same_is r.path [] e))) in
+    let root : nat_eq r.key.root j.root ≡ true = eq-eqb r.key.root j.root (own ∙ ap (λ (x : Held). x.root) held) in
+    let below_top : same r.key.path [] ≡ false = false_if (same r.key.path []) (λ e. absurd (deep (same_is r.key.path [] e))) in
     let page : copied_in j.pages r ≡ c = some_is (copied_in j.pages r) c (sym (ap (option_map (copied_in j.pages)) at) ∙ looked) in
     let G : Option Row → Type 0 = λ o. IfSome o (λ x. b ≡ row_stays j.root j.pages x) in
     subst G (sym at) (told_is ∙ sym (λ i. not (root i) || (below_top i || is_accessed (page i))))
@@ -44,36 +44,36 @@ stays_accessed h j k r c b held within is own deep looked told_is =
 pub tree_kept : (root : ℕ) (pages : List PageValue) (rows : List Row)
     → below root (forest pages (filter (row_stays root pages) rows)) ≡ filter (λ e. is_kept e.0 e.1) (below root (forest pages rows))
 tree_kept root pages [] = refl
-tree_kept root pages (r ∷ rows) = by (told (nat_eq r.root root)) (tree_kept root pages rows)
+tree_kept root pages (r ∷ rows) = by (told (nat_eq r.key.root root)) (tree_kept root pages rows)
   where
-    at_own : nat_eq r.root root ≡ true → (b : Bool) → is_kept r.path (copied_in pages r) ≡ b
+    at_own : nat_eq r.key.root root ≡ true → (b : Bool) → is_kept r.key.path (copied_in pages r) ≡ b
         → below root (forest pages (filter (row_stays root pages) rows)) ≡ filter (λ e. is_kept e.0 e.1) (below root (forest pages rows))
         → below root (forest pages (cond b (r ∷ filter (row_stays root pages) rows) (filter (row_stays root pages) rows)))
-        ≡ cond b ((r.path, copied_in pages r) ∷ filter (λ e. is_kept e.0 e.1) (below root (forest pages rows))) (filter (λ e. is_kept e.0 e.1) (below root (forest pages rows)))
+        ≡ cond b ((r.key.path, copied_in pages r) ∷ filter (λ e. is_kept e.0 e.1) (below root (forest pages rows))) (filter (λ e. is_kept e.0 e.1) (below root (forest pages rows)))
     at_own own true h same =
-        ap (λ b. cond b ((r.path, copied_in pages r) ∷ below root (forest pages (filter (row_stays root pages) rows))) (below root (forest pages (filter (row_stays root pages) rows)))) own
-        ∙ ap (λ (xs : List Entry). (r.path, copied_in pages r) ∷ xs) same
+        ap (λ b. cond b ((r.key.path, copied_in pages r) ∷ below root (forest pages (filter (row_stays root pages) rows))) (below root (forest pages (filter (row_stays root pages) rows)))) own
+        ∙ ap (λ (xs : List Entry). (r.key.path, copied_in pages r) ∷ xs) same
     at_own own false h same = same
 
-    by : (nat_eq r.root root ≡ true) ⊎ (nat_eq r.root root ≡ false)
+    by : (nat_eq r.key.root root ≡ true) ⊎ (nat_eq r.key.root root ≡ false)
         → below root (forest pages (filter (row_stays root pages) rows)) ≡ filter (λ e. is_kept e.0 e.1) (below root (forest pages rows))
-        → below root (forest pages (cond (not (nat_eq r.root root) || is_kept r.path (copied_in pages r)) (r ∷ filter (row_stays root pages) rows) (filter (row_stays root pages) rows)))
-        ≡ filter (λ e. is_kept e.0 e.1) (cond (nat_eq r.root root) ((r.path, copied_in pages r) ∷ below root (forest pages rows)) (below root (forest pages rows)))
+        → below root (forest pages (cond (not (nat_eq r.key.root root) || is_kept r.key.path (copied_in pages r)) (r ∷ filter (row_stays root pages) rows) (filter (row_stays root pages) rows)))
+        ≡ filter (λ e. is_kept e.0 e.1) (cond (nat_eq r.key.root root) ((r.key.path, copied_in pages r) ∷ below root (forest pages rows)) (below root (forest pages rows)))
     by (inl own) same =
-        ap (λ b. below root (forest pages (cond (not b || is_kept r.path (copied_in pages r)) (r ∷ filter (row_stays root pages) rows) (filter (row_stays root pages) rows)))) own
-        ∙ at_own own (is_kept r.path (copied_in pages r)) refl same
-        ∙ sym (ap (λ b. filter (λ (e : Entry). is_kept e.0 e.1) (cond b ((r.path, copied_in pages r) ∷ below root (forest pages rows)) (below root (forest pages rows)))) own)
+        ap (λ b. below root (forest pages (cond (not b || is_kept r.key.path (copied_in pages r)) (r ∷ filter (row_stays root pages) rows) (filter (row_stays root pages) rows)))) own
+        ∙ at_own own (is_kept r.key.path (copied_in pages r)) refl same
+        ∙ sym (ap (λ b. filter (λ (e : Entry). is_kept e.0 e.1) (cond b ((r.key.path, copied_in pages r) ∷ below root (forest pages rows)) (below root (forest pages rows)))) own)
     by (inr off) same =
-        ap (λ b. below root (forest pages (cond (not b || is_kept r.path (copied_in pages r)) (r ∷ filter (row_stays root pages) rows) (filter (row_stays root pages) rows)))) off
-        ∙ ap (λ b. cond b ((r.path, copied_in pages r) ∷ below root (forest pages (filter (row_stays root pages) rows))) (below root (forest pages (filter (row_stays root pages) rows)))) off
+        ap (λ b. below root (forest pages (cond (not b || is_kept r.key.path (copied_in pages r)) (r ∷ filter (row_stays root pages) rows) (filter (row_stays root pages) rows)))) off
+        ∙ ap (λ b. cond b ((r.key.path, copied_in pages r) ∷ below root (forest pages (filter (row_stays root pages) rows))) (below root (forest pages (filter (row_stays root pages) rows)))) off
         ∙ same
-        ∙ sym (ap (λ b. filter (λ (e : Entry). is_kept e.0 e.1) (cond b ((r.path, copied_in pages r) ∷ below root (forest pages rows)) (below root (forest pages rows)))) off)
+        ∙ sym (ap (λ b. filter (λ (e : Entry). is_kept e.0 e.1) (cond b ((r.key.path, copied_in pages r) ∷ below root (forest pages rows)) (below root (forest pages rows)))) off)
 
 -- a row that goes is of the picked root
-goes_own : (root : ℕ) (pages : List PageValue) (r : Row) → row_stays root pages r ≡ false → nat_eq r.root root ≡ true
-goes_own root pages r h = by (nat_eq r.root root) h
+goes_own : (root : ℕ) (pages : List PageValue) (r : Row) → row_stays root pages r ≡ false → nat_eq r.key.root root ≡ true
+goes_own root pages r h = by (nat_eq r.key.root root) h
   where
-    by : (b : Bool) → (not b || is_kept r.path (copied_in pages r)) ≡ false → b ≡ true
+    by : (b : Bool) → (not b || is_kept r.key.path (copied_in pages r)) ≡ false → b ≡ true
     by true e = refl
     by false e = absurd (cc e)
 
@@ -85,11 +85,11 @@ tree_other root k pages off (r ∷ rows) = by (row_stays root pages r) refl (tre
   where
     by : (b : Bool) → row_stays root pages r ≡ b → below k (forest pages (filter (row_stays root pages) rows)) ≡ below k (forest pages rows)
         → below k (forest pages (cond b (r ∷ filter (row_stays root pages) rows) (filter (row_stays root pages) rows)))
-        ≡ cond (nat_eq r.root k) ((r.path, copied_in pages r) ∷ below k (forest pages rows)) (below k (forest pages rows))
-    by true h rest = ap (λ (es : List Entry). cond (nat_eq r.root k) ((r.path, copied_in pages r) ∷ es) es) rest
+        ≡ cond (nat_eq r.key.root k) ((r.key.path, copied_in pages r) ∷ below k (forest pages rows)) (below k (forest pages rows))
+    by true h rest = ap (λ (es : List Entry). cond (nat_eq r.key.root k) ((r.key.path, copied_in pages r) ∷ es) es) rest
     by false h rest =
-        let other : nat_eq r.root k ≡ false = ap (λ n. nat_eq n k) (eqb-true r.root root (goes_own root pages r h)) ∙ eq_sym k root off in
-        rest ∙ sym (ap (λ b. cond b ((r.path, copied_in pages r) ∷ below k (forest pages rows)) (below k (forest pages rows))) other)
+        let other : nat_eq r.key.root k ≡ false = ap (λ n. nat_eq n k) (eqb-true r.key.root root (goes_own root pages r h)) ∙ eq_sym k root off in
+        rest ∙ sym (ap (λ b. cond b ((r.key.path, copied_in pages r) ∷ below k (forest pages rows)) (below k (forest pages rows))) other)
 
 more_kept : (root : ℕ) (pages : List PageValue) (rows : List Row) → more_rows root (filter (row_stays root pages) rows) ≡ more_rows root rows
 more_kept root pages [] = refl
@@ -97,8 +97,8 @@ more_kept root pages (r ∷ rows) = by (row_stays root pages r) refl (more_kept 
   where
     by : (b : Bool) → row_stays root pages r ≡ b → more_rows root (filter (row_stays root pages) rows) ≡ more_rows root rows
         → more_rows root (cond b (r ∷ filter (row_stays root pages) rows) (filter (row_stays root pages) rows))
-        ≡ cond (nat_eq r.root root) (more_rows root rows) (suc (more_rows root rows))
-    by true h rest = ap (λ n. cond (nat_eq r.root root) n (suc n)) rest
+        ≡ cond (nat_eq r.key.root root) (more_rows root rows) (suc (more_rows root rows))
+    by true h rest = ap (λ n. cond (nat_eq r.key.root root) n (suc n)) rest
     by false h rest = rest ∙ sym (ap (λ b. cond b (more_rows root rows) (suc (more_rows root rows))) (goes_own root pages r h))
 
 pub beside_kept : (h j : Held) → j.pages ≡ h.pages → j.root ≡ h.root → j.rows ≡ filter (row_stays h.root h.pages) h.rows

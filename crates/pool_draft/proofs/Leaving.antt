@@ -55,7 +55,7 @@ held_left h k f held within at more = record {
   apart = subst A (sym frames) (apart_remove (frames_of h.rows) k held.apart);
   out = subst B (sym frames) (all_both (IsOut h.run) (λ g. f ≢ g) (IsOut (put_back h.run f)) (λ g is off. out_back h.run f g own off is) (remove (frames_of h.rows) k)
       (all_remove (IsOut h.run) (frames_of h.rows) k held.out) (off_rest (frames_of h.rows) k f at held.apart));
-  short = all_remove (λ (r : Row). length r.path ≤ 7) h.rows k held.short;
+  short = all_remove (λ (r : Row). length r.key.path ≤ 7) h.rows k held.short;
   of = omega (arith, held.of, length-set h.run.taken (f - h.run.first) false);
   room = omega (arith, held.room, more, length-remove h.rows k within);
 }

@@ -6,6 +6,7 @@ pub mod Keeping
 pub mod Leaving
 pub mod Listing
 pub mod Looks
+pub mod Numbers
 pub mod Putting
 pub mod Roots
 pub mod RowTouch

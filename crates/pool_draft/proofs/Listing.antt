@@ -26,39 +26,39 @@ drop_at xs k x at = by xs k at ∙ ap (λ n. x ∷ drop n xs) (sym (add-one k))
 
 -- the row is of another root, or its page is not fresh
 pub skipped : (root : ℕ) (pages : List PageValue) (rows : List Row) (k : ℕ) (r : Row) (all : List Entry) (listed : List (List ℕ)) → slice_get rows k ≡ Some r
-    → (nat_eq r.root root && is_fresh all (r.path, copied_in pages r)) ≡ false
+    → (nat_eq r.key.root root && is_fresh all (r.key.path, copied_in pages r)) ≡ false
     → IsListed all (tree_from root pages rows k) listed → IsListed all (tree_from root pages rows (k + 1)) listed
 skipped root pages rows k r all listed at stale so_far =
     let F : List Entry → Type 0 = λ es. IsListed all es listed in
-    by (told (nat_eq r.root root)) (subst F (ap (λ rs. below root (forest pages rs)) (drop_at rows k r at)) so_far)
+    by (told (nat_eq r.key.root root)) (subst F (ap (λ rs. below root (forest pages rs)) (drop_at rows k r at)) so_far)
   where
-    by : (nat_eq r.root root ≡ true) ⊎ (nat_eq r.root root ≡ false)
-        → IsListed all (cond (nat_eq r.root root) ((r.path, copied_in pages r) ∷ tree_from root pages rows (k + 1)) (tree_from root pages rows (k + 1))) listed
+    by : (nat_eq r.key.root root ≡ true) ⊎ (nat_eq r.key.root root ≡ false)
+        → IsListed all (cond (nat_eq r.key.root root) ((r.key.path, copied_in pages r) ∷ tree_from root pages rows (k + 1)) (tree_from root pages rows (k + 1))) listed
         → IsListed all (tree_from root pages rows (k + 1)) listed
     by (inl e) h =
-        let F : Bool → Type 0 = λ b. IsListed all (cond b ((r.path, copied_in pages r) ∷ tree_from root pages rows (k + 1)) (tree_from root pages rows (k + 1))) listed in
-        listed_same all (tree_from root pages rows (k + 1)) (r.path, copied_in pages r) listed
-        (sym (ap (λ b. b && is_fresh all (r.path, copied_in pages r)) e) ∙ stale) (subst F e h)
+        let F : Bool → Type 0 = λ b. IsListed all (cond b ((r.key.path, copied_in pages r) ∷ tree_from root pages rows (k + 1)) (tree_from root pages rows (k + 1))) listed in
+        listed_same all (tree_from root pages rows (k + 1)) (r.key.path, copied_in pages r) listed
+        (sym (ap (λ b. b && is_fresh all (r.key.path, copied_in pages r)) e) ∙ stale) (subst F e h)
     by (inr e) h =
-        let F : Bool → Type 0 = λ b. IsListed all (cond b ((r.path, copied_in pages r) ∷ tree_from root pages rows (k + 1)) (tree_from root pages rows (k + 1))) listed in
+        let F : Bool → Type 0 = λ b. IsListed all (cond b ((r.key.path, copied_in pages r) ∷ tree_from root pages rows (k + 1)) (tree_from root pages rows (k + 1))) listed in
         subst F e h
 
 -- it is fresh
 pub is_next : (root : ℕ) (pages : List PageValue) (rows : List Row) (k : ℕ) (r : Row) (all : List Entry) (listed : List (List ℕ)) → slice_get rows k ≡ Some r
-    → (nat_eq r.root root && is_fresh all (r.path, copied_in pages r)) ≡ true
+    → (nat_eq r.key.root root && is_fresh all (r.key.path, copied_in pages r)) ≡ true
     → IsListed all (tree_from root pages rows k) listed
-    → (is_fresh all (r.path, copied_in pages r) ≡ true) × IsListed all ((r.path, copied_in pages r) ∷ tree_from root pages rows (k + 1)) listed
+    → (is_fresh all (r.key.path, copied_in pages r) ≡ true) × IsListed all ((r.key.path, copied_in pages r) ∷ tree_from root pages rows (k + 1)) listed
 is_next root pages rows k r all listed at fresh so_far =
     let F : List Entry → Type 0 = λ es. IsListed all es listed in
-    by (told (nat_eq r.root root)) (subst F (ap (λ rs. below root (forest pages rs)) (drop_at rows k r at)) so_far)
+    by (told (nat_eq r.key.root root)) (subst F (ap (λ rs. below root (forest pages rs)) (drop_at rows k r at)) so_far)
   where
-    by : (nat_eq r.root root ≡ true) ⊎ (nat_eq r.root root ≡ false)
-        → IsListed all (cond (nat_eq r.root root) ((r.path, copied_in pages r) ∷ tree_from root pages rows (k + 1)) (tree_from root pages rows (k + 1))) listed
-        → (is_fresh all (r.path, copied_in pages r) ≡ true) × IsListed all ((r.path, copied_in pages r) ∷ tree_from root pages rows (k + 1)) listed
+    by : (nat_eq r.key.root root ≡ true) ⊎ (nat_eq r.key.root root ≡ false)
+        → IsListed all (cond (nat_eq r.key.root root) ((r.key.path, copied_in pages r) ∷ tree_from root pages rows (k + 1)) (tree_from root pages rows (k + 1))) listed
+        → (is_fresh all (r.key.path, copied_in pages r) ≡ true) × IsListed all ((r.key.path, copied_in pages r) ∷ tree_from root pages rows (k + 1)) listed
     by (inl e) h =
-        let F : Bool → Type 0 = λ b. IsListed all (cond b ((r.path, copied_in pages r) ∷ tree_from root pages rows (k + 1)) (tree_from root pages rows (k + 1))) listed in
-        (sym (ap (λ b. b && is_fresh all (r.path, copied_in pages r)) e) ∙ fresh, subst F e h)
-    by (inr e) h = never fresh (ap (λ b. b && is_fresh all (r.path, copied_in pages r)) e)
+        let F : Bool → Type 0 = λ b. IsListed all (cond b ((r.key.path, copied_in pages r) ∷ tree_from root pages rows (k + 1)) (tree_from root pages rows (k + 1))) listed in
+        (sym (ap (λ b. b && is_fresh all (r.key.path, copied_in pages r)) e) ∙ fresh, subst F e h)
+    by (inr e) h = never fresh (ap (λ b. b && is_fresh all (r.key.path, copied_in pages r)) e)
 
 -- after the last row
 pub none_left : (root : ℕ) (pages : List PageValue) (rows : List Row) (k : ℕ) → length rows ≤ k → tree_from root pages rows k ≡ []

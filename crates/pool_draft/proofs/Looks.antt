@@ -65,7 +65,7 @@ short_forest pages (r ∷ rows) short root p long = by (told (same (root ∷ p) 
     by : (same (root ∷ p) (key_of r) ≡ true) ⊎ (same (root ∷ p) (key_of r) ≡ false) → is_some (shown (forest pages rows) (root ∷ p)) ≡ false
         → is_some (cond (same (root ∷ p) (key_of r)) (Some (copied_in pages r)) (shown (forest pages rows) (root ∷ p))) ≡ false
     by (inl e) rest =
-        let is : length p ≡ length r.path = ap length (tail_is root r.root p r.path (same_is (root ∷ p) (key_of r) e)) in
+        let is : length p ≡ length r.key.path = ap length (tail_is root r.key.root p r.key.path (same_is (root ∷ p) (key_of r) e)) in
         absurd (omega (arith, is, long, short.0))
     by (inr e) rest = ap (λ b. is_some (cond b (Some (copied_in pages r)) (shown (forest pages rows) (root ∷ p)))) e ∙ rest
 

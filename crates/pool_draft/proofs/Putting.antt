@@ -53,7 +53,7 @@ held_put h k at c pages rows run held place long gap w = record {
   apart = subst A (sym frames) (apart_insert (frames_of h.rows) k w.row.frame (in_off h.run w.row.frame w.home (frames_of h.rows) held.out) held.apart);
   out = subst B (sym w.run_is) (subst C (sym frames) (all_insert (IsOut (taken_out h.run w.row.frame)) (frames_of h.rows) k w.row.frame (taken_is_out h.run w.row.frame w.home)
       (all_map (IsOut h.run) (IsOut (taken_out h.run w.row.frame)) (λ g. out_taken h.run w.row.frame g) (frames_of h.rows) held.out)));
-  short = subst S (sym w.rows_are) (all_insert (λ (r : Row). length r.path ≤ 7) h.rows k w.row (omega (arith, long, ap length (tail_is w.row.path at w.row.root h.root w.key))) held.short);
+  short = subst S (sym w.rows_are) (all_insert (λ (r : Row). length r.key.path ≤ 7) h.rows k w.row (omega (arith, long, ap length (tail_is w.row.key.path at w.row.key.root h.root w.key))) held.short);
   of = omega (arith, held.of, w.many, ap (λ (l : Leased). l.first) w.run_is, ap (λ (l : Leased). length l.taken) w.run_is, length-set h.run.taken (w.row.frame - h.run.first) true);
   room = omega (arith, held.room, w.left_is, ap length w.rows_are, length-insert h.rows k w.row place);
 }
@@ -111,7 +111,7 @@ beside_put h k at c pages rows run place w =
     other n off = ap (below n) w.forest_is ∙ insert_other n h.root at c (eq_sym n h.root off) (forest h.pages h.rows) k
 
     more : more_rows h.root rows ≡ more_rows h.root h.rows
-    more = ap (more_rows h.root) w.rows_are ∙ more_insert h.root h.rows k w.row (eq-eqb w.row.root h.root (head_is w.row.path at w.row.root h.root w.key))
+    more = ap (more_rows h.root) w.rows_are ∙ more_insert h.root h.rows k w.row (eq-eqb w.row.key.root h.root (head_is w.row.key.path at w.row.key.root h.root w.key))
 
     frames : length rows + left run ≡ length h.rows + left h.run
     frames = omega (arith, w.left_is, ap length w.rows_are, length-insert h.rows k w.row place)
@@ -120,10 +120,10 @@ beside_put h k at c pages rows run place w =
 
 pub count_rows : (root : ℕ) (pages : List PageValue) (rows : List Row) → more_rows root rows + length (below root (forest pages rows)) ≡ length rows
 count_rows root pages [] = refl
-count_rows root pages (r ∷ rows) = by (nat_eq r.root root) (count_rows root pages rows)
+count_rows root pages (r ∷ rows) = by (nat_eq r.key.root root) (count_rows root pages rows)
   where
     by : (b : Bool) → more_rows root rows + length (below root (forest pages rows)) ≡ length rows
-        → cond b (more_rows root rows) (suc (more_rows root rows)) + length (cond b ((r.path, (entry_in pages r).1) ∷ below root (forest pages rows)) (below root (forest pages rows))) ≡ suc (length rows)
+        → cond b (more_rows root rows) (suc (more_rows root rows)) + length (cond b ((r.key.path, (entry_in pages r).1) ∷ below root (forest pages rows)) (below root (forest pages rows))) ≡ suc (length rows)
     by true h = omega (arith, h)
     by false h = omega (arith, h)
 

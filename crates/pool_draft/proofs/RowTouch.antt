@@ -141,25 +141,25 @@ begins_gap h i key gap = (gap.0, behind_from (map key_of h.rows) i gap.1)
 read_row : (h : Held) (k : ℕ) (r : Row) → k < length h.rows → r ≡ get_or h.rows k r → slice_get h.rows k ≡ Some r
 read_row h k r within is = slice_get_read h.rows (length h.rows) k r refl within is
 
-pub begins_row : (h j : Held) (k : ℕ) (r : Row) → h ≡ j → IsHeld h → k < length j.rows → r ≡ get_or h.rows k r → r.root ≡ h.root
-    → AreBefore (j.root ∷ r.path) (map key_of j.rows) k × IsFromAt (j.root ∷ r.path) (map key_of j.rows) k
+pub begins_row : (h j : Held) (k : ℕ) (r : Row) → h ≡ j → IsHeld h → k < length j.rows → r ≡ get_or h.rows k r → r.key.root ≡ h.root
+    → AreBefore (j.root ∷ r.key.path) (map key_of j.rows) k × IsFromAt (j.root ∷ r.key.path) (map key_of j.rows) k
 begins_row h j k r same held within is own =
-    let F : Held → Type 0 = λ x. AreBefore (x.root ∷ r.path) (map key_of x.rows) k × IsFromAt (x.root ∷ r.path) (map key_of x.rows) k in
+    let F : Held → Type 0 = λ x. AreBefore (x.root ∷ r.key.path) (map key_of x.rows) k × IsFromAt (x.root ∷ r.key.path) (map key_of x.rows) k in
     let many : length h.rows ≡ length j.rows = ap (λ (x : Held). length x.rows) same in
     let at : slice_get h.rows k ≡ Some r = read_row h k r (omega (arith, many, within)) is in
-    let key : IsFoundAt (map key_of h.rows) (h.root ∷ r.path) k = slice_get-map key_of h.rows k ∙ ap (option_map key_of) at ∙ ap (λ n. Some (n ∷ r.path)) own in
-    subst F same (begins_own h k (h.root ∷ r.path) held key)
+    let key : IsFoundAt (map key_of h.rows) (h.root ∷ r.key.path) k = slice_get-map key_of h.rows k ∙ ap (option_map key_of) at ∙ ap (λ n. Some (n ∷ r.key.path)) own in
+    subst F same (begins_own h k (h.root ∷ r.key.path) held key)
 
-pub fresh_row : (h j : Held) (k : ℕ) (r : Row) (b : Bool) → h ≡ j → k < length j.rows → r ≡ get_or h.rows k r → r.root ≡ h.root → r.marks.live ≡ true
-    → b ≡ is_touched (picked_tree j) r.path
-    → IfSome (slice_get j.rows k) (λ x. b ≡ (nat_eq x.root j.root && is_fresh (picked_tree j) (x.path, copied_in j.pages x)))
+pub fresh_row : (h j : Held) (k : ℕ) (r : Row) (b : Bool) → h ≡ j → k < length j.rows → r ≡ get_or h.rows k r → r.key.root ≡ h.root → r.marks.live ≡ true
+    → b ≡ is_touched (picked_tree j) r.key.path
+    → IfSome (slice_get j.rows k) (λ x. b ≡ (nat_eq x.key.root j.root && is_fresh (picked_tree j) (x.key.path, copied_in j.pages x)))
 fresh_row h j k r b same within is own live told =
     let F : Held → Type 0 = λ x. slice_get x.rows k ≡ Some r in
-    let G : Option Row → Type 0 = λ o. IfSome o (λ x. b ≡ (nat_eq x.root j.root && is_fresh (picked_tree j) (x.path, copied_in j.pages x))) in
+    let G : Option Row → Type 0 = λ o. IfSome o (λ x. b ≡ (nat_eq x.key.root j.root && is_fresh (picked_tree j) (x.key.path, copied_in j.pages x))) in
     let many : length h.rows ≡ length j.rows = ap (λ (x : Held). length x.rows) same in
     let at : slice_get j.rows k ≡ Some r = subst F same (read_row h k r (omega (arith, many, within)) is) in
-    let root : r.root ≡ j.root = own ∙ ap (λ (x : Held). x.root) same in
-    subst G (sym at) (told ∙ sym (λ i. eq-eqb r.root j.root root i && (live i && is_touched (picked_tree j) r.path)))
+    let root : r.key.root ≡ j.root = own ∙ ap (λ (x : Held). x.root) same in
+    subst G (sym at) (told ∙ sym (λ i. eq-eqb r.key.root j.root root i && (live i && is_touched (picked_tree j) r.key.path)))
 
 -- the row that was read at a place is the row there
 pub row_here : (h j : Held) (k : ℕ) (r : Row) → h ≡ j → k < length j.rows → r ≡ get_or h.rows k r → slice_get j.rows k ≡ Some r

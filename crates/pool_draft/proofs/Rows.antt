@@ -138,10 +138,10 @@ write_own pages w (x ∷ rows) (suc i) r s at apart key frame within =
 
 -- ---- how many rows are of other roots
 
-pub more_insert : (root : ℕ) (rows : List Row) (i : ℕ) (r : Row) → nat_eq r.root root ≡ true → more_rows root (insert rows i r) ≡ more_rows root rows
+pub more_insert : (root : ℕ) (rows : List Row) (i : ℕ) (r : Row) → nat_eq r.key.root root ≡ true → more_rows root (insert rows i r) ≡ more_rows root rows
 more_insert root rows zero r own = ap (λ b. cond b (more_rows root rows) (suc (more_rows root rows))) own
 more_insert root [] (suc i) r own = ap (λ b. cond b 0 1) own
-more_insert root (x ∷ rows) (suc i) r own = ap (λ n. cond (nat_eq x.root root) n (suc n)) (more_insert root rows i r own)
+more_insert root (x ∷ rows) (suc i) r own = ap (λ n. cond (nat_eq x.key.root root) n (suc n)) (more_insert root rows i r own)
 
 -- ---- a row that is set, with the same key and frame
 
@@ -158,11 +158,11 @@ all_set P [] i x own all = tt
 all_set P (y ∷ xs) zero x own all = (own, all.1)
 all_set P (y ∷ xs) (suc i) x own all = (all.0, all_set P xs i x own all.1)
 
-pub more_set : (root : ℕ) (rows : List Row) (i : ℕ) (r s : Row) → slice_get rows i ≡ Some r → s.root ≡ r.root → more_rows root (slice_set rows i s) ≡ more_rows root rows
+pub more_set : (root : ℕ) (rows : List Row) (i : ℕ) (r s : Row) → slice_get rows i ≡ Some r → s.key.root ≡ r.key.root → more_rows root (slice_set rows i s) ≡ more_rows root rows
 more_set root [] i r s at same = refl
 more_set root (x ∷ rows) zero r s at same =
-    ap (λ n. cond (nat_eq n root) (more_rows root rows) (suc (more_rows root rows))) (same ∙ ap (λ (y : Row). y.root) (is r x (sym at)))
+    ap (λ n. cond (nat_eq n root) (more_rows root rows) (suc (more_rows root rows))) (same ∙ ap (λ (y : Row). y.key.root) (is r x (sym at)))
   where
     is : (a b : Row) → Some a ≡ Some b → a ≡ b
     is a b h = cc h
-more_set root (x ∷ rows) (suc i) r s at same = ap (λ n. cond (nat_eq x.root root) n (suc n)) (more_set root rows i r s at same)
+more_set root (x ∷ rows) (suc i) r s at same = ap (λ n. cond (nat_eq x.key.root root) n (suc n)) (more_set root rows i r s at same)

@@ -52,14 +52,14 @@ held_written h k f pages rows held w =
     let B : List ℕ → Type 0 = λ fs. AreAllOut h.run fs in
     let S : List Row → Type 0 = λ rs. AreShort rs in
     let frames = frames_kept h k f pages rows w in
-    let long : length w.row'.path ≤ 7 =
-    omega (arith, all_here (λ (r : Row). length r.path ≤ 7) h.rows k w.row held.short w.at, ap length (tail_is w.row'.path w.row.path w.row'.root w.row.root w.key)) in
+    let long : length w.row'.key.path ≤ 7 =
+    omega (arith, all_here (λ (r : Row). length r.key.path ≤ 7) h.rows k w.row held.short w.at, ap length (tail_is w.row'.key.path w.row.key.path w.row'.key.root w.row.key.root w.key)) in
     let many : length rows ≡ length h.rows = ap length w.rows_are ∙ length-set h.rows k w.row' in
     record {
       ordered = subst O (sym (keys_kept h k f pages rows w)) held.ordered;
       apart = subst A (sym frames) held.apart;
       out = subst B (sym frames) held.out;
-      short = subst S (sym w.rows_are) (all_set (λ (r : Row). length r.path ≤ 7) h.rows k w.row' long held.short);
+      short = subst S (sym w.rows_are) (all_set (λ (r : Row). length r.key.path ≤ 7) h.rows k w.row' long held.short);
       of = omega (arith, held.of, w.many);
       room = omega (arith, held.room, many);
     }
@@ -161,16 +161,16 @@ beside_written h k f pages rows at found w =
         some_is : (x y : List ℕ) → Some x ≡ Some y → x ≡ y
         some_is x y e = cc e
 
-    own : w.row.root ≡ h.root
-    own = head_is w.row.path at w.row.root h.root key
+    own : w.row.key.root ≡ h.root
+    own = head_is w.row.key.path at w.row.key.root h.root key
 
     other : (n : ℕ) → nat_eq n h.root ≡ false → below n (forest pages rows) ≡ below n (forest h.pages h.rows)
     other n off =
         ap (below n) w.forest_is
-        ∙ set_other n w.row.root w.row.path (f (copied_in h.pages w.row)) (ap (λ m. nat_eq m n) own ∙ eq_sym n h.root off) (forest h.pages h.rows) k (copied_in h.pages w.row) here
+        ∙ set_other n w.row.key.root w.row.key.path (f (copied_in h.pages w.row)) (ap (λ m. nat_eq m n) own ∙ eq_sym n h.root off) (forest h.pages h.rows) k (copied_in h.pages w.row) here
 
     more : more_rows h.root rows ≡ more_rows h.root h.rows
-    more = ap (more_rows h.root) w.rows_are ∙ more_set h.root h.rows k w.row w.row' w.at (head_is w.row'.path w.row.path w.row'.root w.row.root w.key)
+    more = ap (more_rows h.root) w.rows_are ∙ more_set h.root h.rows k w.row w.row' w.at (head_is w.row'.key.path w.row.key.path w.row'.key.root w.row.key.root w.key)
 
     many : length rows ≡ length h.rows
     many = ap length w.rows_are ∙ length-set h.rows k w.row'

@@ -42,7 +42,7 @@ pub record Beside : Type 0 where
 -- how many rows are of other roots
 abbrev pub more_rows : ℕ → List Row → ℕ
 more_rows root [] = 0
-more_rows root (r ∷ rows) = if nat_eq r.root root then more_rows root rows else suc (more_rows root rows)
+more_rows root (r ∷ rows) = if nat_eq r.key.root root then more_rows root rows else suc (more_rows root rows)
 
 abbrev pub beside : Held → Beside
 beside h =

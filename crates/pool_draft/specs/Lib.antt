@@ -1,5 +1,6 @@
 pub mod Forest
 pub mod Held
+pub mod Keys
 pub mod Roots
 pub mod Rows
 pub mod Seeking

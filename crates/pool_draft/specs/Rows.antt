@@ -8,10 +8,11 @@ use Rattle.draft_model.specs.Entries.{Entry}
 use Rattle.draft_tree.specs.Marking.{copied_with}
 use Rattle.frame_pool.specs.Leasing.{Leased, IsOut}
 use Rattle.pool_draft.specs.declared.row.Row.{Row}
+use Rattle.pool_draft.specs.Keys.{key_list}
 
 -- a row's place among all: its root, and then its path
 abbrev pub key_of : Row → List ℕ
-key_of r = r.root ∷ r.path
+key_of r = key_list r.key
 
 -- the page of a row, with its marks
 abbrev pub copied_in : List PageValue → Row → Copied
@@ -38,4 +39,4 @@ AreAllOut run fs = AllByRecursion (IsOut run) fs
 
 -- no path has more than seven slots
 abbrev pub AreShort : List Row → Type 0
-AreShort rows = AllByRecursion (λ r. length r.path ≤ 7) rows
+AreShort rows = AllByRecursion (λ r. length r.key.path ≤ 7) rows

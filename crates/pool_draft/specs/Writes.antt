@@ -40,12 +40,11 @@ marks_away m = record { live = false; read = m.read; written = m.written; search
 abbrev pub cut_row : ℕ → List ℕ → Row → Row
 cut_row root at r =
     record {
-      root = r.root;
-      path = r.path;
+      key = r.key;
       marks = if is_prefix (root ∷ at) (key_of r) then marks_away r.marks else r.marks;
       frame = r.frame;
     }
 
 -- the row stays when the base of a root changes: it is of another root, or its page stays
 abbrev pub row_stays : ℕ → List PageValue → Row → Bool
-row_stays root pages r = not (nat_eq r.root root) || is_kept r.path (copied_in pages r)
+row_stays root pages r = not (nat_eq r.key.root root) || is_kept r.key.path (copied_in pages r)

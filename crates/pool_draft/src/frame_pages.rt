@@ -9,12 +9,14 @@ ghost use Rattle.draft_tree.specs.Looking.{looked};
 ghost use Rattle.draft_tree.specs.declared.draft.TheConstants.{MAX_FRESH};
 ghost use Rattle.frame_pool.specs.Leasing.{left, IsOf};
 ghost use Rattle.pool_draft.specs.Held.{picked_tree, beside, IsHeld};
+ghost use Rattle.pool_draft.specs.Keys.{key_list};
 ghost use Rattle.pool_draft.specs.Rows.{key_of, copied_in};
 ghost use Rattle.pool_draft.specs.Writes.{row_stays};
 ghost use Rattle.draft_tree.specs.Pages.{is_kept};
 ghost use Rattle.pool_draft.specs.Seeking.{AreBefore, IsFoundAt, IsFromAt, IsGapAt};
 
 use crate::row::Row;
+use crate::row_key::{Branch, RowKey};
 use crate::row_writes::{change_row, cut_rows, insert_row, write_row};
 use afs_base::{Memory, Path};
 use arrayvec::ArrayVec;
@@ -50,15 +52,15 @@ impl Model for FramePages {
     }) };
 }
 
-/// Where the row of a root and a path stands, or else where it belongs.
-fn place_in(rows: &[Row], root: u8, at: &Path) -> Result<usize, usize>
+/// Where the row of a key stands, or else where it belongs.
+fn place_in(rows: &[Row], key: &RowKey) -> Result<usize, usize>
     requires { IsStrictlySortedBy path_cmp (map key_of rows.now) }
     ensures found { IfOk result (λ k. (k < length rows.now)
-        × IsFoundAt (map key_of rows.now) (root ∷ at.now) k) }
+        × IsFoundAt (map key_of rows.now) (key_list key.now) k) }
     ensures gap { IfErr result (λ k. (k ≤ length rows.now)
-        × IsGapAt (map key_of rows.now) (root ∷ at.now) k) }
+        × IsGapAt (map key_of rows.now) (key_list key.now) k) }
 {
-    rows.binary_search_by(|row| row.order(root, at))
+    rows.binary_search_by(|row| row.key.order(key))
 }
 
 impl FramePages {
@@ -103,7 +105,7 @@ impl FramePages {
             × IsGapAt (map key_of self.now.rows) (self.now.root ∷ at.now) k) }
         ensures held { IsHeld self.now }
     {
-        place_in(&self.lease.rows, self.root, at)
+        place_in(&self.lease.rows, &RowKey::of(self.root, at))
     }
 
     /// How many rows there are.
@@ -136,8 +138,7 @@ impl FramePages {
         ensures left { left self.new.run ≡ left self.old.run + 1 }
     {
         let Row {
-            root: _,
-            path: _,
+            key: _,
             marks: _,
             frame,
         } = self.lease.rows.remove(k);
@@ -151,7 +152,7 @@ impl FramePages {
             (λ r. result ≡ row_stays self.now.root self.now.pages r) }
     {
         let row = &self.lease.rows[k];
-        if row.root != self.root || row.path.is_empty() {
+        if row.key.root() != self.root || row.key.is_top() {
             return true;
         }
         let look = self.look_at(k);
@@ -203,6 +204,13 @@ impl FramePages {
         (pool, lease)
     }
 
+    /// A path of the picked root, with all that is below it.
+    fn branch(&self, at: &Path) -> Branch
+        ensures { result ≡ record { root = self.now.root; path = at.now } }
+    {
+        Branch::of(self.root, at)
+    }
+
     /// Whether something was written at or below a path of the picked root, whose place is that of the k-th row or between the row before and it.
     fn touches_from(&self, k: usize, at: &Path) -> bool
         requires within { k ≤ length self.now.rows }
@@ -210,8 +218,9 @@ impl FramePages {
         requires from { IsFromAt (self.now.root ∷ at.now) (map key_of self.now.rows) k }
         ensures { result ≡ is_touched (picked_tree self.now) at.now }
     {
+        let branch = self.branch(at);
         for i in k..self.row_count() {
-            if !self.is_below(i, at) {
+            if !self.is_below(i, &branch) {
                 return false;
             }
             let look = self.look_at(i);
@@ -225,35 +234,35 @@ impl FramePages {
     /// The path of a row.
     fn path_at(&self, k: usize) -> Path
         requires { k < length self.now.rows }
-        ensures { IfSome (slice_get self.now.rows k) (λ r. result ≡ r.path) }
+        ensures { IfSome (slice_get self.now.rows k) (λ r. result ≡ r.key.path) }
     {
         let row = &self.lease.rows[k];
-        row.path
+        row.key.path()
     }
 
-    /// Whether a row is of the picked root, and its path is this one or below it.
-    fn is_below(&self, k: usize, at: &Path) -> bool
+    /// Whether a row is one of a branch.
+    fn is_below(&self, k: usize, branch: &Branch) -> bool
         requires { k < length self.now.rows }
         ensures below { IfSome (slice_get self.now.rows k)
-            (λ r. result ≡ is_prefix (self.now.root ∷ at.now) (key_of r)) }
+            (λ r. result ≡ is_prefix (key_list branch.now) (key_of r)) }
         ensures held { IsHeld self.now }
     {
         let row = &self.lease.rows[k];
-        row.root == self.root && at.is_prefix_of(&row.path)
+        branch.has(&row.key)
     }
 
     /// Whether a row has a page of the picked root that is live and has something written on or below it.
     fn is_fresh(&self, k: usize) -> bool
         requires { k < length self.now.rows }
         ensures { IfSome (slice_get self.now.rows k) (λ r. result
-            ≡ (nat_eq r.root self.now.root
-            && is_fresh (picked_tree self.now) (r.path, copied_in self.now.pages r))) }
+            ≡ (nat_eq r.key.root self.now.root
+            && is_fresh (picked_tree self.now) (r.key.path, copied_in self.now.pages r))) }
     {
         let row = &self.lease.rows[k];
-        if row.root != self.root || !row.marks.live {
+        if row.key.root() != self.root || !row.marks.live {
             return false;
         }
-        self.touches_from(k, &row.path)
+        self.touches_from(k, &row.key.path())
     }
 
     /// Whether something was written anywhere in the picked root.

@@ -7,6 +7,7 @@ mod laws;
 mod pool_draft;
 mod pool_set;
 mod row;
+mod row_key;
 mod row_writes;
 
 pub use base::Base;

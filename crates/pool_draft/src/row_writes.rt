@@ -8,6 +8,7 @@ ghost use Rattle.pool_draft.specs.Rows.{key_of, copied_in, forest, frames_of, Ar
 ghost use Rattle.pool_draft.specs.Writes.{IsPageWritten, IsRowPut, cut_row};
 
 use crate::row::Row;
+use crate::row_key::{Branch, RowKey};
 use afs_base::{Memory, Path};
 use draft_tree::{Change, CopiedPage};
 use frame_pool::{Lease, Pool};
@@ -67,8 +68,7 @@ pub fn insert_row(
     };
     *pool.page_mut(&frame) = copied.page;
     let row = Row {
-        root,
-        path: *at,
+        key: RowKey::of(root, at),
         marks: copied.marks,
         frame,
     };
@@ -83,7 +83,8 @@ pub fn cut_rows(rows: &mut Vec<Row>, root: u8, at: &Path)
     ensures rows { rows.new.items ≡ map (cut_row root at.now) rows.old.items }
     ensures capacity { vec_capacity rows.new ≡ vec_capacity rows.old }
 {
+    let branch = Branch::of(root, at);
     for k in 0..rows.len() {
-        rows[k].cut(root, at);
+        rows[k].cut(&branch);
     }
 }
