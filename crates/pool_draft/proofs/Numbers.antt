@@ -1,5 +1,5 @@
 -- The numbers of keys: each tells its key, they are ordered as keys are, and those of a branch lie side by side.
-use Rattle.std.proofs.Common.{◌≡◌, ◌≢◌, ℕ, zero, suc, ◌+◌, ◌-◌, ◌*◌, ◌^◌, ◌/◌, ◌%◌, ◌<◌, ◌≤◌, Bool, true, false, ◌&&◌, nat_eq, nat_lt, List, [], ◌∷◌, ◌++◌, length, ◌↔◌, ◌⊎◌, inl, inr, refl, sym, ap, subst, ◌∙◌, get_or, drop, drop-cons, add-one, eq-eqb, eqb-true, lt-ltb, ltb-true, IsTrue, arith}
+use Rattle.std.proofs.Common.{◌≡◌, ◌≢◌, ℕ, zero, suc, ◌+◌, ◌-◌, ◌*◌, ◌^◌, ◌/◌, ◌%◌, ◌<◌, ◌≤◌, true, false, ◌&&◌, nat_eq, nat_lt, List, [], ◌∷◌, ◌++◌, length, ◌↔◌, ◌⊎◌, inl, inr, refl, sym, ap, subst, ◌∙◌, get_or, drop, drop-cons, add-one, eq-eqb, eqb-true, lt-ltb, ltb-true, IsTrue, arith}
 use Rattle.std.proofs.Math.Nat.{one-le-pow, pow-suc, mul-le-mul_right, zero-div}
 use Rattle.std.proofs.lemmas.Nat.{div-mul-add, mod-mul-add}
 use Rattle.std.proofs.lemmas.Bool.{cases_order}

@@ -294,9 +294,13 @@ impl FramePages {
         requires { length (picked_tree self.now) ≤ MAX_FRESH }
         ensures { result ≡ length (fresh_paths (picked_tree self.now)) }
     {
-        let mut paths = ArrayVec::new();
-        self.list_fresh(&mut paths);
-        paths.len() as u32
+        let mut count = 0;
+        for k in 0..self.row_count() {
+            if self.is_fresh(k) {
+                count += 1;
+            }
+        }
+        count
     }
 
     /// The k-th of them, from 0.
@@ -304,9 +308,16 @@ impl FramePages {
         requires { length (picked_tree self.now) ≤ MAX_FRESH }
         ensures { result ≡ slice_get (fresh_paths (picked_tree self.now)) k }
     {
-        let mut paths = ArrayVec::new();
-        self.list_fresh(&mut paths);
-        paths.as_slice().get(k as usize).copied()
+        let mut before = 0;
+        for i in 0..self.row_count() {
+            if self.is_fresh(i) {
+                if before == k {
+                    return Some(self.path_at(i));
+                }
+                before += 1;
+            }
+        }
+        None
     }
 }
 

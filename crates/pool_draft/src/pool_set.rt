@@ -276,11 +276,9 @@ impl Draft for PoolSet {
     }
 
     fn step(&mut self, done: &Step) -> Result<Reply, Memory> {
-        let answer = step(&mut self.pages, done);
-        let Ok(reply) = answer else { unreachable!() };
         self.count += 1;
         self.fed = 0;
-        Ok(reply)
+        step(&mut self.pages, done)
     }
 
     fn take_merged(&mut self, at: &Path, merged: &Page) {

@@ -44,6 +44,20 @@ pub fn write_row(pool: &mut Pool, rows: &mut Vec<Row>, k: usize, copied: &Copied
     *pool.page_mut(&row.frame) = copied.page;
 }
 
+/// Puts a row to a place of a vector that has room. The rows behind are moved all at once, as `insert` does not.
+fn put_at(rows: &mut Vec<Row>, k: usize, row: Row)
+    requires place { k ≤ length rows.old.items }
+    requires room { length rows.old.items < vec_capacity rows.old }
+    ensures items { rows.new.items ≡ insert rows.old.items k row }
+    ensures capacity { vec_capacity rows.old ≤ vec_capacity rows.new }
+{
+    match rows.push(row) {
+        Ok(()) => (),
+        Err(_) => unreachable!(),
+    }
+    rows[k..].rotate_right(1);
+}
+
 /// Puts a page into a frame, and its row to a place. Refused exactly where the lease has no frame left, and then nothing changes.
 pub fn insert_row(
     pool: &mut Pool,
@@ -72,10 +86,8 @@ pub fn insert_row(
         marks: copied.marks,
         frame,
     };
-    match lease.rows.insert(k, row) {
-        Ok(()) => Ok(()),
-        Err(_) => unreachable!(),
-    }
+    put_at(&mut lease.rows, k, row);
+    Ok(())
 }
 
 /// Takes away the pages of a root at and below a path. Their marks stay.

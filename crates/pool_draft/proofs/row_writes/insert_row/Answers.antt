@@ -21,4 +21,4 @@ returns-clause-put c =
     let P : Copied → Type 0 = λ x. IsRowPut c.args.pool.now run rows c.args.k (c.args.root ∷ c.args.at.now) x (slice_set c.args.pool.now row.frame c.copied.inside.page) c.take.new.lease.run (insert rows c.args.k row) in
     let Q : List PageValue → Type 0 = λ ps. IsRowPut c.args.pool.now run rows c.args.k (c.args.root ∷ c.args.at.now) c.args.copied.now (slice_set ps row.frame c.copied.inside.page) c.take.new.lease.run (insert rows c.args.k row) in
     let R : List Row → Type 0 = λ rs. IsRowPut c.args.pool.now run rows c.args.k (c.args.root ∷ c.args.at.now) c.args.copied.now (slice_set c.take.new.self row.frame c.copied.inside.page) c.take.new.lease.run rs in
-    subst R (sym (c.in-Ok.ensures.items ∙ ap (λ v. insert v.items c.args.k row) c.take.ensures.rows)) (subst Q (sym c.take.ensures.pages) (subst P c.copied.view_is put))
+    subst R (sym (c.put_at.ensures.items ∙ ap (λ v. insert v.items c.args.k row) c.take.ensures.rows)) (subst Q (sym c.take.ensures.pages) (subst P c.copied.view_is put))

@@ -1,4 +1,4 @@
-use Rattle.std.proofs.Common.{◌≡◌, ◌∷◌, List, ℕ, map, true, sym, subst, ◌∙◌, rules}
+use Rattle.std.proofs.Common.{◌≡◌, ◌∷◌, List, ℕ, map, true, sym, subst, rules}
 use Rattle.draft_model.specs.Entries.{is_touched}
 use Rattle.pool_draft.specs.Held.{Held, picked_tree}
 use Rattle.pool_draft.specs.Rows.{key_of}

@@ -1,5 +1,5 @@
-use Rattle.std.proofs.Common.{◌≡◌, ◌≤◌, ◌+◌, ◌-◌, ◌*◌, ◌/◌, ℕ, List, length, drop, get_or, refl, sym, ap, ◌∙◌, arith}
-use Rattle.pool_draft.specs.Keys.{Key, IsKey, digits, number_of}
+use Rattle.std.proofs.Common.{◌≡◌, ◌≤◌, length, refl, ap, ◌∙◌, arith}
+use Rattle.pool_draft.specs.Keys.{Key, IsKey, number_of}
 use Rattle.pool_draft.proofs.Numbers.{next_power, next_number, number_start, number_fits, number_whole, branch_good, branch_shown}
 use Rattle.pool_draft.proofs.row_key.Branch.of.Goals as goal
 

@@ -1,6 +1,6 @@
-use Rattle.std.proofs.Common.{sym, ap, ◌∙◌}
+use Rattle.std.proofs.Common.{◌∙◌}
 use Rattle.afs_base.specs.Path.{path_cmp}
-use Rattle.pool_draft.specs.Keys.{Key, key_list}
+use Rattle.pool_draft.specs.Keys.{key_list}
 use Rattle.pool_draft.proofs.Numbers.{numbers_order}
 use Rattle.pool_draft.proofs.row_key.RowKey.order.Goals as goal
 

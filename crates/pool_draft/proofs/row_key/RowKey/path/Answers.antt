@@ -1,6 +1,6 @@
-use Rattle.std.proofs.Common.{◌≡◌, ◌+◌, ◌-◌, ◌/◌, ◌%◌, ◌<◌, ◌++◌, ◌∷◌, [], List, ℕ, length, refl, sym, ap, ◌∙◌, append_assoc, length-append, true, arith}
+use Rattle.std.proofs.Common.{◌≡◌, ◌+◌, ◌-◌, ◌/◌, ◌%◌, ◌++◌, ◌∷◌, [], List, ℕ, length, refl, sym, ap, ◌∙◌, append_assoc, length-append, true, arith}
 use Rattle.afs_base.specs.Path.{are_slots}
-use Rattle.pool_draft.specs.Keys.{Key, path_in, key_in}
+use Rattle.pool_draft.specs.Keys.{Key, path_in}
 use Rattle.pool_draft.proofs.Numbers.{some_power, next_power, path_told, path_ends, path_goes_on, path_full, slot_within}
 use Rattle.pool_draft.proofs.row_key.RowKey.path.Goals as goal
 
