@@ -167,3 +167,21 @@ fn frames_go_back_where_a_page_is_let_go(rt: HostRuntime) -> Result<(), Fail> {
     assert_eq!(rt; lease.left(), 1024);
     Ok(())
 }
+
+#[test]
+fn a_set_lets_go_of_all_and_begins_anew(rt: HostRuntime) -> Result<(), Fail> {
+    let mut set = pool_set(rt.alloc(), 2)?;
+    run_all(&rt, &mut set, "make /8;write /0/1 new")?;
+    assert_eq!(rt; set.left(), 1024 - 17 - 3);
+    set.clear();
+    assert_eq!(rt; (set.roots(), set.left()), (0, 1024));
+
+    let version = base().ok_or("no version")?;
+    set.begin(BlockNo::at(8), &version);
+    assert_eq!(rt; (set.roots(), set.left()), (1, 1023));
+    assert_eq!(rt; (set.root().get(), set.object(), set.serial()), (8, 5, 9));
+    assert_eq!(rt; (set.count(), set.has_writes()), (0, false));
+    run_all(&rt, &mut set, "make /8")?;
+    is_fresh(&rt, &set, "/ /8");
+    Ok(())
+}
