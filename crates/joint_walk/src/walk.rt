@@ -86,6 +86,7 @@ fn merge_into<D: Draft>(draft: &mut D, at: &Path, page: &Page)
     requires level { page.now.level ≡ length at.now }
     ensures view { D.view draft.new ≡ settled_view (D.view draft.old) at.now page.now }
     ensures same { ChangesPages D.Draft draft.old draft.new }
+    ensures rest { D.rest_of draft.new ≡ D.rest_of draft.old }
     ensures ready { D.is_ready draft.new }
 {
     if is_live(draft, at) {
@@ -113,6 +114,7 @@ impl Walk {
             version.now.root result }
         ensures base { IsOnBase D.Draft draft.old draft.new at version.now.serial }
         ensures steps { steps.new ≡ min (steps.old + 1) (2 ^ 64 - 1) }
+        ensures rest { D.rest_of draft.new ≡ D.rest_of draft.old }
         ensures ready { D.is_ready draft.new }
     {
         steps.tick();
@@ -155,6 +157,7 @@ impl Walk {
         ensures draft { D.view draft.new ≡ draft_if (D.view draft.old) self.old.pair }
         ensures by { WasSettled self.old.pair (option_copied offer.entry) result }
         ensures same { ChangesPages D.Draft draft.old draft.new }
+        ensures rest { D.rest_of draft.new ≡ D.rest_of draft.old }
         ensures ready { D.is_ready draft.new }
     {
         match self.pair {
@@ -190,6 +193,7 @@ impl Walk {
         ensures settles { Settles self.old (D.view draft.old) self.new (D.view draft.new) }
         ensures by { WasSettled self.old.pair (option_copied offer.entry) result }
         ensures same { ChangesPages D.Draft draft.old draft.new }
+        ensures rest { D.rest_of draft.new ≡ D.rest_of draft.old }
         ensures ready { D.is_ready draft.new }
     {
         self.settle_any(draft, offer)
@@ -231,6 +235,7 @@ impl Walk {
         ensures by { WasSettled self.old.pair (option_copied offer.entry) result }
         ensures same { ChangesPages D.Draft draft.old draft.new }
         ensures steps { steps.new ≡ min (steps.old + 1) (2 ^ 64 - 1) }
+        ensures rest { D.rest_of draft.new ≡ D.rest_of draft.old }
         ensures ready { D.is_ready draft.new }
     {
         steps.tick();
@@ -250,6 +255,7 @@ impl Walk {
         ensures ends { Ends self (D.view draft.new) self.clash }
         ensures draft { D.view draft.new ≡ D.view draft.old }
         ensures same { ChangesPages D.Draft draft.old draft.new }
+        ensures rest { D.rest_of draft.new ≡ D.rest_of draft.old }
         ensures ready { D.is_ready draft.new }
     {
         match self.clash {
