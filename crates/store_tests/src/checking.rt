@@ -1,5 +1,5 @@
 //! Stores made by hand: a file with two versions, a member that is not linked yet, and each cause once.
-use crate::patched::{Patch, history_drives};
+use crate::patched::history_drives;
 use afs_base::BlockNo;
 use page_codec::Why;
 use pair_store::Pair;
@@ -9,159 +9,139 @@ use std::test::Fail;
 use store_check::{Checked, FoundFile, WalkRefused, check};
 
 /// A page at `/0` of the second version of file 1, in block 6.
-const PAGE: [Patch; 2] = [(4096 + 4, &[0x10, 0, 0, 6]), (6144, &[0xA5, 0x50, 1])];
+const PAGE: &str = "4.4:10000006 6.0:a55001";
 
 /// A table of format 2, whose part 0 in block 7 has the entry of file 1.
-const PARTS: [Patch; 5] = [
-    (2, &[2]),
-    (16, &[0; 960]),
-    (16, &[0, 0, 0, 7]),
-    (7168, &[0xA5, 0x45, 0]),
-    (7168 + 16, &[0, 0, 0, 1, 0, 0, 0, 1]),
-];
+const PARTS: &str = "0.2:02 0.16:00*960 0.16:00000007 7.0:a54500 7.16:0000000100000001";
 
-/// What is put on top of the files, and why the store is refused then.
-type Case = (&'static [Patch], Option<(u32, Why)>);
+/// What is put on top of the files, and the block and the cause for which the store is refused
+/// then, if it is.
+type Case = (&'static str, u32, Option<Why>);
 
 /// Causes of block 0.
 const TABLE_CASES: [Case; 14] = [
-    (&[], None),
-    (&[(0, &[0])], Some((0, Why::Closed))),
-    (&[(1, &[0x50])], Some((0, Why::Kind))),
-    (&[(2, &[3])], Some((0, Why::Format))),
-    (&[(4, &[0, 0, 0, 1])], Some((0, Why::Blocks))),
-    (&[(4, &[0, 1, 0, 1])], Some((0, Why::Blocks))),
+    ("", 0, None),
+    ("0.0:00", 0, Some(Why::Closed)),
+    ("0.1:50", 0, Some(Why::Kind)),
+    ("0.2:03", 0, Some(Why::Format)),
+    ("0.4:00000001", 0, Some(Why::Blocks)),
+    ("0.4:00010001", 0, Some(Why::Blocks)),
     // In range, and above the number of the halves.
-    (&[(4, &[0, 0, 0, 9])], Some((0, Why::Blocks))),
-    (&[(16, &[0, 0, 0, 8])], Some((0, Why::Reference))),
-    (&[(23, &[0])], Some((0, Why::Generation))),
-    (&[(72, &[1])], Some((0, Why::Secret))),
-    (&[(3, &[1])], Some((0, Why::Zero))),
-    (&[(976, &[1])], Some((0, Why::Zero))),
-    (&[(32, &[0, 0, 0, 1])], Some((1, Why::Seen))),
-    (&[(48, &[0, 0, 0, 7])], Some((7, Why::Closed))),
+    ("0.4:00000009", 0, Some(Why::Blocks)),
+    ("0.16:00000008", 0, Some(Why::Reference)),
+    ("0.23:00", 0, Some(Why::Generation)),
+    ("0.72:01", 0, Some(Why::Secret)),
+    ("0.3:01", 0, Some(Why::Zero)),
+    ("0.976:01", 0, Some(Why::Zero)),
+    ("0.32:00000001", 1, Some(Why::Seen)),
+    ("0.48:00000007", 7, Some(Why::Closed)),
 ];
 
 /// Causes of version pages, and of how they follow each other.
 const VERSION_CASES: [Case; 26] = [
     // The base of a first version is not looked at.
-    (&[(1024 + 86, &[0, 0, 0, 7])], None),
-    (&[(1024, &[0])], Some((1, Why::Closed))),
-    (&[(1024 + 1, &[0x50])], Some((1, Why::Kind))),
-    (&[(1024 + 2, &[1])], Some((1, Why::Level))),
-    (&[(1024 + 3, &[13])], Some((1, Why::Code))),
-    (&[(1024 + 4, &[0xD0])], Some((1, Why::Code))),
-    (&[(1024 + 4, &[0x10])], Some((1, Why::Reference))),
-    (&[(1024 + 4, &[0, 0, 0, 8])], Some((1, Why::Reference))),
-    (&[(1024 + 82, &[0x10])], Some((1, Why::Reference))),
-    (&[(1024 + 86, &[0x10])], Some((1, Why::Reference))),
-    (&[(1024 + 68, &[3, 33])], Some((1, Why::Length))),
-    (&[(1024 + 73, &[0])], Some((1, Why::Object))),
-    (&[(1024 + 73, &[2])], Some((1, Why::Object))),
-    (&[(1024 + 81, &[0])], Some((1, Why::Serial))),
-    (&[(1024 + 90, &[17])], Some((1, Why::Member))),
-    (&[(1024 + 99, &[1])], Some((1, Why::Zero))),
-    (&[(1024 + 219, &[1])], Some((1, Why::Zero))),
-    (&[(1024 + 1023, &[1])], Some((1, Why::Zero))),
-    (&[(1024 + 82, &[0, 0, 0, 1])], Some((1, Why::Seen))),
+    ("1.86:00000007", 0, None),
+    ("1.0:00", 1, Some(Why::Closed)),
+    ("1.1:50", 1, Some(Why::Kind)),
+    ("1.2:01", 1, Some(Why::Level)),
+    ("1.3:0d", 1, Some(Why::Code)),
+    ("1.4:d0", 1, Some(Why::Code)),
+    ("1.4:10", 1, Some(Why::Reference)),
+    ("1.4:00000008", 1, Some(Why::Reference)),
+    ("1.82:10", 1, Some(Why::Reference)),
+    ("1.86:10", 1, Some(Why::Reference)),
+    ("1.68:0321", 1, Some(Why::Length)),
+    ("1.73:00", 1, Some(Why::Object)),
+    ("1.73:02", 1, Some(Why::Object)),
+    ("1.81:00", 1, Some(Why::Serial)),
+    ("1.90:11", 1, Some(Why::Member)),
+    ("1.99:01", 1, Some(Why::Zero)),
+    ("1.219:01", 1, Some(Why::Zero)),
+    ("1.1023:01", 1, Some(Why::Zero)),
+    ("1.82:00000001", 1, Some(Why::Seen)),
     // It is not the last one, and names a member.
-    (
-        &[(1024 + 90, &[1, 0, 0, 0, 2, 0, 0, 0, 5])],
-        Some((1, Why::Member)),
-    ),
-    (&[(4096 + 81, &[3])], Some((4, Why::Serial))),
-    (&[(4096 + 89, &[2])], Some((4, Why::Base))),
-    (&[(4096 + 3, &[0])], Some((4, Why::Code))),
-    (&[(4096 + 82, &[0, 0, 0, 8])], Some((4, Why::Reference))),
+    ("1.90:010000000200000005", 1, Some(Why::Member)),
+    ("4.81:03", 4, Some(Why::Serial)),
+    ("4.89:02", 4, Some(Why::Base)),
+    ("4.3:00", 4, Some(Why::Code)),
+    ("4.82:00000008", 4, Some(Why::Reference)),
     // A page that was not copied is that of the version before, which has none.
-    (&[(4096 + 4, &[0, 0, 0, 6])], Some((4, Why::Reference))),
-    (&[(4096 + 4, &[0x10, 0, 0, 6])], Some((6, Why::Closed))),
+    ("4.4:00000006", 4, Some(Why::Reference)),
+    ("4.4:10000006", 6, Some(Why::Closed)),
 ];
 
 /// Causes of members and of the versions that they name.
 const MEMBER_CASES: [Case; 14] = [
     // No object, no block, and a block that is too great.
-    (&[(3072 + 94, &[0])], Some((3, Why::Member))),
-    (&[(3072 + 98, &[0])], Some((3, Why::Member))),
-    (&[(3072 + 95, &[0x10])], Some((3, Why::Member))),
+    ("3.94:00", 3, Some(Why::Member)),
+    ("3.98:00", 3, Some(Why::Member)),
+    ("3.95:10", 3, Some(Why::Member)),
     // The top itself, a file that is not live, and none that there may be.
-    (&[(3072 + 94, &[3])], Some((3, Why::Member))),
-    (&[(3072 + 94, &[4])], Some((3, Why::Member))),
-    (&[(3072 + 93, &[1])], Some((3, Why::Member))),
-    (&[(3072 + 98, &[8])], Some((3, Why::Reference))),
-    (&[(3072 + 98, &[4])], Some((4, Why::Seen))),
-    (&[(5120 + 73, &[1])], Some((5, Why::Object))),
-    (&[(5120 + 81, &[3])], Some((5, Why::Serial))),
-    (&[(5120 + 89, &[1])], Some((5, Why::Base))),
-    (&[(5120 + 3, &[0])], Some((5, Why::Code))),
-    (&[(5120 + 82, &[0, 0, 0, 6])], Some((5, Why::Member))),
-    (
-        &[(5120 + 90, &[1, 0, 0, 0, 1, 0, 0, 0, 4])],
-        Some((5, Why::Member)),
-    ),
+    ("3.94:03", 3, Some(Why::Member)),
+    ("3.94:04", 3, Some(Why::Member)),
+    ("3.93:01", 3, Some(Why::Member)),
+    ("3.98:08", 3, Some(Why::Reference)),
+    ("3.98:04", 4, Some(Why::Seen)),
+    ("5.73:01", 5, Some(Why::Object)),
+    ("5.81:03", 5, Some(Why::Serial)),
+    ("5.89:01", 5, Some(Why::Base)),
+    ("5.3:00", 5, Some(Why::Code)),
+    ("5.82:00000006", 5, Some(Why::Member)),
+    ("5.90:010000000100000004", 5, Some(Why::Member)),
 ];
 
 /// Causes of a page below the root.
 const PAGE_CASES: [Case; 9] = [
-    (&[], None),
-    (&[(6144 + 1, &[0x56])], Some((6, Why::Kind))),
-    (&[(6144 + 2, &[0])], Some((6, Why::Level))),
-    (&[(6144 + 2, &[2])], Some((6, Why::Level))),
-    (&[(6144 + 3, &[1])], Some((6, Why::Code))),
-    (&[(6144 + 4, &[0, 0, 0, 7])], Some((6, Why::Reference))),
-    (&[(6144 + 4, &[0x10, 0, 0, 6])], Some((6, Why::Seen))),
-    (&[(6144 + 68, &[3, 33])], Some((6, Why::Length))),
-    (&[(6144 + 70, &[1])], Some((6, Why::Zero))),
+    ("", 0, None),
+    ("6.1:56", 6, Some(Why::Kind)),
+    ("6.2:00", 6, Some(Why::Level)),
+    ("6.2:02", 6, Some(Why::Level)),
+    ("6.3:01", 6, Some(Why::Code)),
+    ("6.4:00000007", 6, Some(Why::Reference)),
+    ("6.4:10000006", 6, Some(Why::Seen)),
+    ("6.68:0321", 6, Some(Why::Length)),
+    ("6.70:01", 6, Some(Why::Zero)),
 ];
 
 /// Causes of a table of two blocks.
 const PART_CASES: [Case; 14] = [
-    (&[], None),
-    (&[(7168, &[0])], Some((7, Why::Closed))),
-    (&[(7168 + 1, &[0x50])], Some((7, Why::Kind))),
-    (&[(7168 + 2, &[1])], Some((7, Why::Index))),
-    (&[(7168 + 16, &[0x10])], Some((7, Why::Reference))),
-    (&[(7168 + 19, &[8])], Some((7, Why::Reference))),
-    (&[(7168 + 23, &[0])], Some((7, Why::Generation))),
-    (&[(7168 + 47, &[1])], Some((7, Why::Secret))),
-    (&[(7168 + 3, &[1])], Some((7, Why::Zero))),
-    (&[(7168 + 16, &[0; 8])], Some((7, Why::Empty))),
-    (&[(7168 + 19, &[7])], Some((7, Why::Seen))),
-    (&[(19, &[8])], Some((0, Why::Reference))),
-    (&[(23, &[7])], Some((7, Why::Seen))),
-    (&[(272, &[1])], Some((0, Why::Zero))),
+    ("", 0, None),
+    ("7.0:00", 7, Some(Why::Closed)),
+    ("7.1:50", 7, Some(Why::Kind)),
+    ("7.2:01", 7, Some(Why::Index)),
+    ("7.16:10", 7, Some(Why::Reference)),
+    ("7.19:08", 7, Some(Why::Reference)),
+    ("7.23:00", 7, Some(Why::Generation)),
+    ("7.47:01", 7, Some(Why::Secret)),
+    ("7.3:01", 7, Some(Why::Zero)),
+    ("7.16:0000000000000000", 7, Some(Why::Empty)),
+    ("7.19:07", 7, Some(Why::Seen)),
+    ("0.19:08", 0, Some(Why::Reference)),
+    ("0.23:07", 7, Some(Why::Seen)),
+    ("0.272:01", 0, Some(Why::Zero)),
 ];
 
-/// What a store with these bytes is checked as.
-fn checked(
-    alloc: Global,
-    base: &[Patch],
-    patches: &[Patch],
-) -> Result<Result<Checked, WalkRefused>, Fail> {
-    let drives = history_drives(alloc, base, patches, patches)?;
+/// What a store with these words over it is checked as.
+fn checked(alloc: Global, base: &str, words: &str) -> Result<Result<Checked, WalkRefused>, Fail> {
+    let drives = history_drives(alloc, base, words, words)?;
     let (_pair, checked) = check(alloc, Pair::over(drives));
     Ok(checked)
 }
 
-/// Why a store with these bytes is refused, where it is.
-fn refused(alloc: Global, base: &[Patch], patches: &[Patch]) -> Result<Option<WalkRefused>, Fail> {
-    Ok(checked(alloc, base, patches)?.err())
+/// Why a store with these words over it is refused, where it is.
+fn refused(alloc: Global, base: &str, words: &str) -> Result<Option<WalkRefused>, Fail> {
+    Ok(checked(alloc, base, words)?.err())
 }
 
-fn bad(cause: &Option<(u32, Why)>) -> Result<Option<WalkRefused>, Fail> {
-    match cause {
-        None => Ok(None),
-        Some((n, why)) => Ok(Some(WalkRefused::BadStore {
-            block: BlockNo::of(*n)?,
-            why: *why,
-        })),
-    }
+fn bad(n: u32, why: Option<Why>) -> Result<Option<WalkRefused>, Fail> {
+    let block = BlockNo::of(n)?;
+    Ok(why.map(|why| WalkRefused::BadStore { block, why }))
 }
 
-fn are_found(rt: &impl Abort, alloc: Global, base: &[Patch], cases: &[Case]) -> Result<(), Fail> {
-    'cases: for (patches, cause) in cases {
-        let found = refused(alloc, base, patches)?;
-        assert_eq!(rt; found, bad(cause)?);
+fn are_found(rt: &impl Abort, alloc: Global, base: &str, cases: &[Case]) -> Result<(), Fail> {
+    for (words, block, why) in cases {
+        let found = refused(alloc, base, words)?;
+        assert_eq!(rt; found, bad(*block, *why)?, "{words}");
     }
     Ok(())
 }
@@ -169,93 +149,82 @@ fn are_found(rt: &impl Abort, alloc: Global, base: &[Patch], cases: &[Case]) -> 
 #[test]
 fn each_cause_is_found(rt: HostRuntime) -> Result<(), Fail> {
     let alloc = rt.alloc();
-    are_found(&rt, alloc, &[], &TABLE_CASES)?;
-    are_found(&rt, alloc, &[], &VERSION_CASES)?;
-    are_found(&rt, alloc, &[], &MEMBER_CASES)?;
-    are_found(&rt, alloc, &PAGE, &PAGE_CASES)?;
-    are_found(&rt, alloc, &PARTS, &PART_CASES)
+    are_found(&rt, alloc, "", &TABLE_CASES)?;
+    are_found(&rt, alloc, "", &VERSION_CASES)?;
+    are_found(&rt, alloc, "", &MEMBER_CASES)?;
+    are_found(&rt, alloc, PAGE, &PAGE_CASES)?;
+    are_found(&rt, alloc, PARTS, &PART_CASES)
 }
 
-/// What is kept of a file: the block of its last version, the serial of its first one, the block of
-/// the version whose link to the last one is outstanding, and how many blocks its versions hold.
-type Kept = (u32, u64, Option<u32>, u32);
+/// The link that is outstanding is set.
+const LINKED: &str = "2.82:00000005";
 
-/// What is kept of files 1 to 4, of which the last is not live, and how many blocks are free.
-const KEPT: [(&[Patch], [Option<Kept>; 4], u32); 4] = [
-    (
-        &[],
-        [
-            Some((4, 1, None, 2)),
-            Some((5, 1, Some(2), 2)),
-            Some((3, 1, None, 1)),
-            None,
-        ],
-        2,
-    ),
-    // The link is set.
-    (
-        &[(2048 + 82, &[0, 0, 0, 5])],
-        [
-            Some((4, 1, None, 2)),
-            Some((5, 1, None, 2)),
-            Some((3, 1, None, 1)),
-            None,
-        ],
-        2,
-    ),
-    // Version 2 of file 1 has a page of its own in block 6.
-    (
-        &[(4096 + 4, &[0x10, 0, 0, 6]), (6144, &[0xA5, 0x50, 1])],
-        [
-            Some((4, 1, None, 3)),
-            Some((5, 1, Some(2), 2)),
-            Some((3, 1, None, 1)),
-            None,
-        ],
-        1,
-    ),
-    // Both versions of file 1 have the page in block 6, which counts once.
-    (
-        &[
-            (1024 + 4, &[0, 0, 0, 6]),
-            (4096 + 4, &[0, 0, 0, 6]),
-            (6144, &[0xA5, 0x50, 1]),
-        ],
-        [
-            Some((4, 1, None, 3)),
-            Some((5, 1, Some(2), 2)),
-            Some((3, 1, None, 1)),
-            None,
-        ],
-        1,
-    ),
+/// Both versions of file 1 have the page in block 6, which counts once.
+const SHARED: &str = "1.4:00000006 4.4:00000006 6.0:a55001";
+
+/// What is kept of a file with words over the store: its place, the block of its last version, the
+/// serial of its first one, the block of the version whose link to the last one is outstanding or
+/// 0, and how many blocks its versions hold. Of a file that is not live all are 0.
+type Kept = (&'static str, usize, u32, u64, u32, u32);
+
+const KEPT: [Kept; 16] = [
+    ("", 0, 4, 1, 0, 2),
+    ("", 1, 5, 1, 2, 2),
+    ("", 2, 3, 1, 0, 1),
+    ("", 3, 0, 0, 0, 0),
+    (LINKED, 0, 4, 1, 0, 2),
+    (LINKED, 1, 5, 1, 0, 2),
+    (LINKED, 2, 3, 1, 0, 1),
+    (LINKED, 3, 0, 0, 0, 0),
+    (PAGE, 0, 4, 1, 0, 3),
+    (PAGE, 1, 5, 1, 2, 2),
+    (PAGE, 2, 3, 1, 0, 1),
+    (PAGE, 3, 0, 0, 0, 0),
+    (SHARED, 0, 4, 1, 0, 3),
+    (SHARED, 1, 5, 1, 2, 2),
+    (SHARED, 2, 3, 1, 0, 1),
+    (SHARED, 3, 0, 0, 0, 0),
 ];
 
-fn kept_of(chain: &FoundFile) -> Kept {
-    (
-        chain.last.block.get(),
-        chain.first,
-        chain.unset.map(|block| block.get()),
-        chain.kept,
-    )
+/// How many blocks are free then.
+const FREE: [(&str, u32); 4] = [("", 2), (LINKED, 2), (PAGE, 1), (SHARED, 1)];
+
+/// What is kept of the file at a place; zeros where there is none.
+fn kept_at(heads: &[Option<FoundFile>], place: usize) -> (u32, u64, u32, u32) {
+    match heads.get(place) {
+        Some(Some(chain)) => (
+            chain.last.block.get(),
+            chain.first,
+            chain.unset.map_or(0, |block| block.get()),
+            chain.kept,
+        ),
+        _ => (0, 0, 0, 0),
+    }
 }
 
-/// What is kept of the first four files, and how many blocks are free.
-fn told_of(checked: &Checked) -> ([Option<Kept>; 4], u32) {
-    let mut kept = [None; 4];
-    'files: for i in 0..4 {
-        if i < checked.heads.len() {
-            kept[i] = checked.heads[i].as_ref().map(kept_of);
-        }
-    }
-    (kept, checked.map.free())
+fn is_kept(rt: &impl Abort, alloc: Global, row: &Kept) -> Result<(), Fail> {
+    let (words, place, last, first, unset, kept) = *row;
+    let checked = checked(alloc, "", words)??;
+    assert_eq!(rt;
+        kept_at(checked.heads.as_slice(), place),
+        (last, first, unset, kept),
+        "{words}, {place}"
+    );
+    Ok(())
+}
+
+/// How many blocks are free in a store with these words over it.
+fn free_in(alloc: Global, words: &str) -> Result<u32, Fail> {
+    Ok(checked(alloc, "", words)??.map.free())
 }
 
 #[test]
 fn what_is_kept_of_each_file(rt: HostRuntime) -> Result<(), Fail> {
-    'cases: for (patches, kept, free) in &KEPT {
-        let checked = checked(rt.alloc(), &[], patches)??;
-        assert_eq!(rt; told_of(&checked), (*kept, *free));
+    for row in KEPT {
+        is_kept(&rt, rt.alloc(), &row)?;
+    }
+    for (words, free) in FREE {
+        assert_eq!(rt; free_in(rt.alloc(), words)?, free, "{words}");
     }
     Ok(())
 }

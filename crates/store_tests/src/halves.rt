@@ -3,6 +3,7 @@ ghost use Rattle.std.specs.Prelude.{◌≡◌, ◌↔◌, ℕ, ◌+◌, ◌-◌,
 
 use drives::*;
 use std::alloc::{AllocError, Global};
+use std::process::Abort;
 use std::test::Fail;
 
 // Halves as they stand over files: they count, and tell no bytes.
@@ -120,12 +121,12 @@ fn run<V: Drives>(drives: &mut V) -> u8 {
     done
 }
 
-// The bytes from 10 on, where the calls write.
-fn four(half: &[u8]) -> [u8; 4] {
+// The bytes from 10 on, where the calls write, as one number.
+fn four(half: &[u8]) -> u32 {
     if half.len() < 14 {
-        return [0xff; 4];
+        return u32::MAX;
     }
-    [half[10], half[11], half[12], half[13]]
+    u32::from_be_bytes([half[10], half[11], half[12], half[13]])
 }
 
 fn one(alloc: Global, call: u64) -> Result<Vec<u64>, AllocError> {
@@ -143,50 +144,56 @@ fn torn(alloc: Global) -> Result<MemDrives, Memory> {
     Ok(drives)
 }
 
-fn shown(drives: &MemDrives, moment: u64, pick: Pick) -> Result<[u8; 4], Memory> {
+fn shown(drives: &MemDrives, moment: u64, pick: Pick) -> Result<u32, Memory> {
     if moment > drives.now() {
-        return Ok([0xff; 4]);
+        return Ok(u32::MAX);
     }
     let image = drives.image(moment, pick)?;
     Ok(four(image.half_bytes(Half::A)))
 }
 
-fn ran_sure(alloc: Global) -> Result<(u8, [u8; 4]), Memory> {
+fn ran_sure(alloc: Global) -> Result<(u8, u32), Memory> {
     let mut drives = SureDrives::blank(alloc, 1)?;
     Ok((run(&mut drives), four(drives.half_bytes(Half::A))))
 }
 
-fn ran_memory(alloc: Global) -> Result<(u8, [u8; 4]), Memory> {
+fn ran_memory(alloc: Global) -> Result<(u8, u32), Memory> {
     let mut drives = MemDrives::blank(alloc, 1)?;
     Ok((run(&mut drives), four(drives.half_bytes(Half::A))))
 }
 
-#[test]
-fn each_moment_has_its_images(rt: HostRuntime) -> Result<(), Fail> {
-    let drives = torn(rt.alloc())?;
-    let table = [
-        (0, Pick::New, [0, 0, 0, 0]),
-        (1, Pick::Old, [0, 0, 0, 0]),
-        (1, Pick::New, [1, 2, 3, 0]),
-        (1, Pick::Fill(0x5a), [0x5a, 0x5a, 0x5a, 0]),
-        (2, Pick::Old, [1, 2, 3, 0]),
-        (2, Pick::Fill(0x5a), [1, 2, 3, 0]),
-        (3, Pick::New, [1, 9, 3, 0]),
-        (3, Pick::Fill(0x5a), [1, 0x5a, 3, 0]),
-        (4, Pick::Old, [1, 2, 3, 0]),
-        (4, Pick::New, [1, 9, 3, 0]),
-        (4, Pick::Fill(0x5a), [1, 0x5a, 0x5a, 0x5a]),
-    ];
-    for (moment, pick, want) in &table {
-        assert_eq!(rt; shown(&drives, *moment, *pick)?, *want);
+// A moment, a pick, and the four bytes that the image has then.
+const IMAGES: [(u64, Pick, u32); 11] = [
+    (0, Pick::New, 0),
+    (1, Pick::Old, 0),
+    (1, Pick::New, 0x0102_0300),
+    (1, Pick::Fill(0x5a), 0x5a5a_5a00),
+    (2, Pick::Old, 0x0102_0300),
+    (2, Pick::Fill(0x5a), 0x0102_0300),
+    (3, Pick::New, 0x0109_0300),
+    (3, Pick::Fill(0x5a), 0x015a_0300),
+    (4, Pick::Old, 0x0102_0300),
+    (4, Pick::New, 0x0109_0300),
+    (4, Pick::Fill(0x5a), 0x015a_5a5a),
+];
+
+fn has_images(rt: &impl Abort, drives: &MemDrives) -> Result<(), Memory> {
+    for (moment, pick, want) in IMAGES {
+        assert_eq!(rt; shown(drives, moment, pick)?, want);
     }
     Ok(())
 }
 
 #[test]
+fn each_moment_has_its_images(rt: HostRuntime) -> Result<(), Fail> {
+    has_images(&rt, &torn(rt.alloc())?)?;
+    Ok(())
+}
+
+#[test]
 fn both_implementations_give_the_same_bytes(rt: HostRuntime) -> Result<(), Fail> {
-    assert_eq!(rt; ran_sure(rt.alloc())?, (4, [1, 9, 7, 7]));
-    assert_eq!(rt; ran_memory(rt.alloc())?, (4, [1, 9, 7, 7]));
+    assert_eq!(rt; ran_sure(rt.alloc())?, (4, 0x0109_0707));
+    assert_eq!(rt; ran_memory(rt.alloc())?, (4, 0x0109_0707));
     Ok(())
 }
 

@@ -1,5 +1,5 @@
 //! Stores made by hand, opened: with a link that a commit left outstanding, cut off at each call, and with a half that was torn.
-use crate::patched::{Patch, history_drives, history_half};
+use crate::patched::{history_drives, history_half};
 use afs_base::{BlockNo, Head};
 use drives::{Drives, Half, MemDrives, Pick, SureDrives};
 use page_codec::Why;
@@ -8,10 +8,10 @@ use std::alloc::Global;
 use std::test::Fail;
 
 /// The link that is to be set.
-const LINK: Patch = (2048 + 82, &[0, 0, 0, 5]);
+const LINK: &str = "2.82:00000005";
 
-/// The members that are to be cleared.
-const CLEARED: Patch = (3072 + 90, &[0, 0, 0, 0, 0, 0, 0, 0, 0]);
+/// The same, and the members that are to be cleared.
+const LINK_AND_CLEARED: &str = "2.82:00000005 3.90:000000000000000000";
 
 /// What is told of files 1 to 3: the block of the last version, its serial, and how many blocks are kept.
 type Told = (u32, u64, u32);
@@ -67,10 +67,10 @@ fn images_open(alloc: Global, drives: &MemDrives, moment: u64) -> Result<bool, F
 #[test]
 fn each_stage_of_a_commit_is_rolled_forward(rt: HostRuntime) -> Result<(), Fail> {
     let alloc = rt.alloc();
-    'stages: for stage in [&[][..], &[LINK][..], &[LINK, CLEARED][..]] {
+    'stages: for stage in ["", LINK, LINK_AND_CLEARED] {
         // The halves of a block that was being written: half B has the new bytes.
-        for a in [stage, &[][..]] {
-            assert!(rt; opens(alloc, history_drives(alloc, &[], a, stage)?));
+        for a in [stage, ""] {
+            assert!(rt; opens(alloc, history_drives(alloc, "", a, stage)?));
         }
     }
     Ok(())
@@ -78,7 +78,7 @@ fn each_stage_of_a_commit_is_rolled_forward(rt: HostRuntime) -> Result<(), Fail>
 
 /// The drives that an opening with one failing call leaves; 0 for none.
 fn left_by(alloc: Global, failing: u64) -> Result<MemDrives, Fail> {
-    let mut drives = history_drives(alloc, &[], &[], &[])?;
+    let mut drives = history_drives(alloc, "", "", "")?;
     let mut calls = Vec::new(alloc);
     calls.push(failing)?;
     drives.fail_at(calls);
@@ -108,15 +108,18 @@ fn an_opening_that_failed_is_begun_anew(rt: HostRuntime) -> Result<(), Fail> {
 }
 
 /// What is put over both halves, and the block and the cause of the refusal.
-const CAUSES: [(&[Patch], u32, Why); 4] = [
-    (&[(0, &[0])], 0, Why::Closed),
-    (&[(4096 + 3, &[0])], 4, Why::Code),
-    (&[(32, &[0, 0, 0, 1])], 1, Why::Seen),
-    (&[(3072 + 98, &[4])], 4, Why::Seen),
+const CAUSES: [(&str, u32, Why); 4] = [
+    ("0.0:00", 0, Why::Closed),
+    ("4.3:00", 4, Why::Code),
+    ("0.32:00000001", 1, Why::Seen),
+    ("3.98:04", 4, Why::Seen),
 ];
 
 fn cause_of(alloc: Global, drives: MemDrives) -> Option<OpenRefused> {
-    open(alloc, drives).err().map(|unopened| unopened.why)
+    match open(alloc, drives) {
+        Ok(_) => None,
+        Err(unopened) => Some(unopened.why),
+    }
 }
 
 fn bad(block: u32, why: Why) -> Result<Option<OpenRefused>, Fail> {
@@ -128,9 +131,9 @@ fn bad(block: u32, why: Why) -> Result<Option<OpenRefused>, Fail> {
 
 #[test]
 fn the_first_cause_is_told(rt: HostRuntime) -> Result<(), Fail> {
-    'causes: for (patches, block, why) in &CAUSES {
-        let drives = history_drives(rt.alloc(), patches, &[], &[])?;
-        assert_eq!(rt; cause_of(rt.alloc(), drives), bad(*block, *why)?);
+    for (words, block, why) in CAUSES {
+        let drives = history_drives(rt.alloc(), words, "", "")?;
+        assert_eq!(rt; cause_of(rt.alloc(), drives), bad(block, why)?);
     }
     Ok(())
 }
@@ -139,9 +142,9 @@ fn the_first_cause_is_told(rt: HostRuntime) -> Result<(), Fail> {
 fn a_half_that_is_closed_is_mended_from_the_other(rt: HostRuntime) -> Result<(), Fail> {
     let alloc = rt.alloc();
     // Half B's gates are closed, and half A has the bytes; and the other way round.
-    let gates: [Patch; 3] = [(0, &[0]), (2048, &[0]), (4096, &[0])];
-    for (a, b) in [(&[][..], &gates[..]), (&gates[..], &[][..])] {
-        assert!(rt; opens(alloc, history_drives(alloc, &[], a, b)?));
+    let gates = "0.0:00 2.0:00 4.0:00";
+    for (a, b) in [("", gates), (gates, "")] {
+        assert!(rt; opens(alloc, history_drives(alloc, "", a, b)?));
     }
     Ok(())
 }
@@ -149,8 +152,8 @@ fn a_half_that_is_closed_is_mended_from_the_other(rt: HostRuntime) -> Result<(),
 #[test]
 fn halves_that_never_fail_are_opened(rt: HostRuntime) -> Result<(), Fail> {
     let alloc = rt.alloc();
-    let a = history_half(alloc, &[], &[])?;
-    let b = history_half(alloc, &[], &[])?;
+    let a = history_half(alloc, "", "")?;
+    let b = history_half(alloc, "", "")?;
     let opened = open(alloc, SureDrives::of_halves(alloc, a, b)?);
     assert!(rt; opened.is_ok_and(|opened| is_told(&opened)));
     Ok(())

@@ -1,42 +1,24 @@
-//! Halves made by hand: those of a new store of three files, with bytes put over them.
+//! Halves made by hand: those of a new store of three files, with words put over them.
 ghost use Rattle.std.specs.Prelude.{◌≡◌, ◌≤◌, ◌<◌, ◌*◌, length, IfOk};
 
-use drives::{MemDrives, Memory};
+use drives::MemDrives;
 use page_codec::fresh_image;
 use std::alloc::Global;
-
-/// Bytes to be put at an offset.
-pub type Patch = (usize, &'static [u8]);
+use std::test::Fail;
+use test_words::put_text;
 
 /// Files 1 to 3 in blocks 1 to 3. File 1 has a second version in block 4. File 3 names a second
 /// version of file 2 as its member, in block 5, to which no link was set.
-const HISTORY: [Patch; 8] = [
-    (1024 + 82, &[0, 0, 0, 4]),
-    (4096 + 3, &[7]),
-    (4096 + 81, &[2]),
-    (4096 + 86, &[0, 0, 0, 1]),
-    (3072 + 90, &[1, 0, 0, 0, 2, 0, 0, 0, 5]),
-    (5120 + 3, &[7]),
-    (5120 + 81, &[2]),
-    (5120 + 86, &[0, 0, 0, 2]),
-];
+const HISTORY: &str =
+    "1.82:00000004 4.3:07 4.81:02 4.86:00000001 3.90:010000000200000005 5.3:07 5.81:02 \
+    5.86:00000002";
 
-fn put(half: &mut Vec<u8>, at: usize, bytes: &[u8])
+/// Puts the words of a text over a half.
+fn put(half: &mut Vec<u8>, text: &str) -> Result<(), Fail>
     ensures { length half.new.items ≡ length half.old.items }
 {
-    'bytes: for k in 0..bytes.len() {
-        if k < half.len() && at < half.len() - k {
-            half[at + k] = bytes[k];
-        }
-    }
-}
-
-fn put_all(half: &mut Vec<u8>, patches: &[Patch])
-    ensures { length half.new.items ≡ length half.old.items }
-{
-    'patches: for patch in patches {
-        put(half, patch.0, patch.1);
-    }
+    put_text(half, text).ok_or("no words of a half")?;
+    Ok(())
 }
 
 fn copy_block(half: &mut Vec<u8>, from: usize, to: usize)
@@ -50,7 +32,7 @@ fn copy_block(half: &mut Vec<u8>, from: usize, to: usize)
 }
 
 /// A half of so many blocks with a new store of three files, and all bytes zero behind it.
-fn new_half(alloc: Global, blocks: u32) -> Result<Vec<u8>, Memory>
+fn new_half(alloc: Global, blocks: u32) -> Result<Vec<u8>, Fail>
     requires least { 4 ≤ blocks }
     requires most { blocks ≤ 16 }
     ensures { IfOk result (λ half. length half.items ≡ 1024 * blocks) }
@@ -60,49 +42,45 @@ fn new_half(alloc: Global, blocks: u32) -> Result<Vec<u8>, Memory>
     Ok(half)
 }
 
-/// A half of sixteen blocks with a new store of three files, and these bytes over it.
-fn plain_half(alloc: Global, pages: &[Patch], patches: &[Patch]) -> Result<Vec<u8>, Memory>
+/// A half of sixteen blocks with a new store of three files, and these words over it.
+fn plain_half(alloc: Global, pages: &str, words: &str) -> Result<Vec<u8>, Fail>
     ensures { IfOk result (λ half. length half.items ≡ 16384) }
 {
     let mut half = new_half(alloc, 16)?;
-    put_all(&mut half, pages);
-    put_all(&mut half, patches);
+    put(&mut half, pages)?;
+    put(&mut half, words)?;
     Ok(half)
 }
 
-/// A half of eight blocks with the history, and these bytes over it.
-pub fn history_half(alloc: Global, base: &[Patch], patches: &[Patch]) -> Result<Vec<u8>, Memory>
+/// A half of eight blocks with the history, and these words over it.
+pub fn history_half(alloc: Global, base: &str, words: &str) -> Result<Vec<u8>, Fail>
     ensures { IfOk result (λ half. length half.items ≡ 8192) }
 {
     let mut half = new_half(alloc, 8)?;
     copy_block(&mut half, 1024, 4096);
     copy_block(&mut half, 2048, 5120);
-    put_all(&mut half, &HISTORY);
-    put_all(&mut half, base);
-    put_all(&mut half, patches);
+    put(&mut half, HISTORY)?;
+    put(&mut half, base)?;
+    put(&mut half, words)?;
     Ok(half)
 }
 
-/// Halves of sixteen blocks, both with these bytes.
-pub fn plain_drives(
-    alloc: Global,
-    pages: &[Patch],
-    patches: &[Patch],
-) -> Result<MemDrives, Memory> {
-    let a = plain_half(alloc, pages, patches)?;
-    let b = plain_half(alloc, pages, patches)?;
-    MemDrives::of_halves(alloc, a, b)
+/// Halves of sixteen blocks, both with these words.
+pub fn plain_drives(alloc: Global, pages: &str, words: &str) -> Result<MemDrives, Fail> {
+    let a = plain_half(alloc, pages, words)?;
+    let b = plain_half(alloc, pages, words)?;
+    Ok(MemDrives::of_halves(alloc, a, b)?)
 }
 
-/// Halves of eight blocks with the history, both with the first bytes, half A with the second and
+/// Halves of eight blocks with the history, both with the first words, half A with the second and
 /// half B with the third.
 pub fn history_drives(
     alloc: Global,
-    base: &[Patch],
-    on_a: &[Patch],
-    on_b: &[Patch],
-) -> Result<MemDrives, Memory> {
+    base: &str,
+    on_a: &str,
+    on_b: &str,
+) -> Result<MemDrives, Fail> {
     let a = history_half(alloc, base, on_a)?;
     let b = history_half(alloc, base, on_b)?;
-    MemDrives::of_halves(alloc, a, b)
+    Ok(MemDrives::of_halves(alloc, a, b)?)
 }

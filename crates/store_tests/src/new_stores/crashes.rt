@@ -4,6 +4,7 @@ ghost use Rattle.std.specs.Prelude.{◌≡◌, IfOk, length};
 use super::*;
 use page_codec::fresh_image;
 use pair_store::{Block, Blocks, Pair, PairFault};
+use std::process::Abort;
 use std::test::*;
 
 /// What the contents of blocks 0 and 1 are.
@@ -57,22 +58,30 @@ fn content(pair: &mut Pair<MemDrives>, n: u32) -> Option<Block> {
     }
 }
 
-fn found_in(image: MemDrives, stores: &Stores) -> Found {
-    let mut pair = Pair::over(image);
-    let table = content(&mut pair, 0);
-    let page = content(&mut pair, 1);
-    let beyond = content(&mut pair, 3);
-    let is = |bytes: &[u8]| {
-        table.is_some_and(|block| block.as_slice() == piece(bytes, 0, 1024))
-            && page.is_some_and(|block| block.as_slice() == piece(bytes, 1024, 1024))
-    };
-    if !beyond.is_some_and(|block| block.as_slice() == piece(&stores.old, 3072, 1024)) {
+/// Whether the content of a block is that of a store's half.
+fn is_block(found: &Option<Block>, half: &[u8], at: usize) -> bool {
+    match found {
+        Some(block) => block.as_slice() == piece(half, at, 1024),
+        None => false,
+    }
+}
+
+/// Whether blocks 0 and 1 are those of a store's half.
+fn is_store(table: &Option<Block>, page: &Option<Block>, half: &[u8]) -> bool {
+    is_block(table, half, 0) && is_block(page, half, 1024)
+}
+
+fn found_in(pair: &mut Pair<MemDrives>, stores: &Stores) -> Found {
+    let table = content(pair, 0);
+    let page = content(pair, 1);
+    let beyond = content(pair, 3);
+    if !is_block(&beyond, &stores.old, 3072) {
         Found::Other
     } else if table.is_none() {
         Found::Closed
-    } else if is(&stores.old) {
+    } else if is_store(&table, &page, &stores.old) {
         Found::Old
-    } else if is(&stores.new) {
+    } else if is_store(&table, &page, &stores.new) {
         Found::New
     } else {
         Found::Other
@@ -102,8 +111,8 @@ fn made(stores: &Stores, failing: u64) -> Result<(bool, MemDrives, Option<Half>)
 fn counts(drives: &MemDrives, stores: &Stores, pick: Pick) -> Result<[u32; 4], Memory> {
     let mut counts = [0u32; 4];
     for moment in 0..=drives.now() {
-        let image = drives.image(moment, pick)?;
-        let place = match found_in(image, stores) {
+        let mut pair = Pair::over(drives.image(moment, pick)?);
+        let place = match found_in(&mut pair, stores) {
             Found::Old => 0,
             Found::Closed => 1,
             Found::New => 2,
@@ -123,16 +132,52 @@ fn are_fine(drives: &MemDrives, stores: &Stores) -> Result<bool, Memory> {
     Ok(fine)
 }
 
+/// Compares how many moments show the old store, none, the new one and anything else, by one pick.
+fn shows(
+    rt: &impl Abort,
+    drives: &MemDrives,
+    stores: &Stores,
+    pick: Pick,
+    wanted: [u32; 4],
+) -> Result<(), Memory> {
+    assert_eq!(rt; counts(drives, stores, pick)?, wanted);
+    Ok(())
+}
+
 #[test]
 fn the_old_store_is_closed_first_and_the_table_comes_last(rt: HostRuntime) -> Result<(), Fail> {
     let stores = make_stores(rt.alloc())?;
     let (done, drives, _) = made(&stores, 0)?;
     assert!(rt; done);
-    // Three calls close half A, three half B; fourteen write block 1; five write block 0 on half B, and five on half A.
+    show_all(&rt, &drives, &stores)?;
+    Ok(())
+}
+
+/// Three calls close half A, three half B; fourteen write block 1; five write block 0 on half B, and five on half A.
+fn show_all(rt: &impl Abort, drives: &MemDrives, stores: &Stores) -> Result<(), Memory> {
     assert_eq!(rt; drives.now(), 30);
-    assert_eq!(rt; counts(&drives, &stores, Pick::New)?, [5, 19, 7, 0]);
-    assert_eq!(rt; counts(&drives, &stores, Pick::Old)?, [6, 19, 6, 0]);
-    assert_eq!(rt; counts(&drives, &stores, Pick::Fill(0xa5))?, [6, 18, 7, 0]);
+    shows(rt, drives, stores, Pick::New, [5, 19, 7, 0])?;
+    shows(rt, drives, stores, Pick::Old, [6, 19, 6, 0])?;
+    shows(rt, drives, stores, Pick::Fill(0xa5), [6, 18, 7, 0])
+}
+
+/// The call of one number fails: it names its half, and leaves one of the stores or none.
+fn fails_on(rt: &impl Abort, stores: &Stores, failing: u64, half: Half) -> Result<(), Memory>
+    requires { length stores.now.old.items ≡ 4096 }
+{
+    let (done, drives, failed) = made(stores, failing)?;
+    assert_eq!(rt; (done, failed), (false, Some(half)), "call {failing}");
+    leaves_one(rt, &drives, stores, failing)
+}
+
+fn leaves_one(
+    rt: &impl Abort,
+    drives: &MemDrives,
+    stores: &Stores,
+    failing: u64,
+) -> Result<(), Memory> {
+    assert_eq!(rt; drives.now(), failing);
+    assert!(rt; are_fine(drives, stores)?, "call {failing}");
     Ok(())
 }
 
@@ -149,10 +194,7 @@ fn each_failing_call_names_its_half_and_leaves_one_of_them(rt: HostRuntime) -> R
     ];
     for (first, last, half) in table {
         for failing in first..=last {
-            let (done, drives, failed) = made(&stores, failing)?;
-            assert_eq!(rt; (done, failed), (false, Some(half)), "call {failing}");
-            assert_eq!(rt; drives.now(), failing);
-            assert!(rt; are_fine(&drives, &stores)?, "call {failing}");
+            fails_on(&rt, &stores, failing, half)?;
         }
     }
     Ok(())
