@@ -1,0 +1,69 @@
+-- What a run of clients keeps in its type.
+use Rattle.std.specs.Prelude.{◌≡◌, ℕ, suc, ◌+◌, ◌≤◌, List, length, sum_by, Option, None, Some, Ok, slice_get}
+use Rattle.pair_store.specs.declared.store.Blocks.{Ghosts}
+use Rattle.recovery.specs.Opening.{IsOpening}
+use Rattle.store_model.specs.Found.{found}
+use Rattle.tree_model.specs.States.{State}
+use Rattle.ground_model.specs.Scenes.{Scene}
+use Rattle.session.specs.Ends.{StopsBy}
+use Rattle.session.specs.Own.{IsOwn}
+use Rattle.session.specs.Safe.{IsSafe, IsSafeStore, entries_left}
+use Rattle.session.specs.Shared.{RunStands, entries_of, room_of}
+use Rattle.session.specs.declared.common.Common.{Common}
+use Rattle.session.specs.declared.session.Session.{Session}
+use Rattle.session.specs.declared.turned.Fault.{Fault}
+use Rattle.ground.specs.Runs.{GroundValue, scripts_of}
+
+-- ---- numbers
+
+-- How many entries these clients may still note.
+abbrev pub left_of : List Session → ℕ
+left_of sessions = sum_by (λ (s : Session). entries_left s.script s.course) sessions
+
+-- There are 1 to 16 clients, in the order of their numbers.
+pub record AreClients (sessions : List Session) : Type 0 where
+  pub some : 1 ≤ length sessions
+  pub most : length sessions ≤ 16
+  pub numbers : (i : ℕ) (s : Session) → slice_get sessions i ≡ Some s → s.course.client ≡ suc i
+
+-- Whether or not contents are told: the numbers of what the clients share and of each client fit the
+-- store, and there is room for the entries that the clients may still note.
+pub record IsSafeRun {D : Type 0} (size : D → ℕ) (c : Common D) (sessions : List Session) : Type 0 where
+  pub store : IsSafeStore size c
+  pub clients : AreClients sessions
+  pub safe : (i : ℕ) (s : Session) → slice_get sessions i ≡ Some s
+      → IsSafe (size c.store) c.map s.script s.course
+  pub room : length (entries_of c) + left_of sessions ≤ room_of c
+
+-- ---- where contents are told
+
+-- The run stands in a scene in which each client has of its own what it needs for its next turn.
+pub record AllStand {D : Type 0} (b : Ghosts D) (opening : State) (first : ℕ) (c : Common D)
+    (sessions : List Session) : Type 0 where
+  pub scene : Scene
+  pub stands : RunStands b opening (scripts_of sessions) first scene c
+  pub own : (i : ℕ) (s : Session) → slice_get sessions i ≡ Some s
+      → IsOwn (scripts_of sessions) scene s.script s.course
+
+-- So it does, or a fault stopped it.
+abbrev pub StandsOr : {D : Type 0} → Ghosts D → State → ℕ → Common D → List Session → Option Fault
+    → Type 0
+StandsOr b opening first c sessions None = AllStand b opening first c sessions
+StandsOr b opening first c sessions (Some fault) =
+    StopsBy b opening (scripts_of sessions) first c fault
+
+-- The run began over the state that was found as its store was opened, and it stands, or a fault
+-- stopped it.
+pub record HasRun {D : Type 0} (b : Ghosts D) (g : GroundValue D) : Type 0 where
+  pub opening : State
+  pub found : found (b.content g.opened.store) (b.size g.opened.store) ≡ Ok opening
+  pub stands : StandsOr b opening g.opened.since g.common g.sessions g.fault
+
+-- ---- the whole
+
+-- What the type of a run keeps: its store has as many blocks as it had, its numbers fit, and where
+-- contents are told, over a store as an opening leaves it, it stands or was stopped.
+pub record IsGround {D : Type 0} (b : Ghosts D) (g : GroundValue D) : Type 0 where
+  pub size : b.size g.common.store ≡ b.size g.opened.store
+  pub safe : IsSafeRun b.size g.common g.sessions
+  pub told : b.tells → IsOpening b g.opened → HasRun b g

@@ -1,0 +1,4 @@
+pub mod Runs
+pub mod Grounds
+pub mod Turning
+pub mod Making

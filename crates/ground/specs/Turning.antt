@@ -1,0 +1,117 @@
+-- What a turn of a run comes to.
+use Rattle.std.specs.Prelude.{◌≡◌, ◌≢◌, ℕ, ◌-◌, ◌≤◌, List, [], ◌∷◌, ◌++◌, length, Option, Some, None, Ok, slice_get}
+use Rattle.std.specs.Option.{option_map_or}
+use Rattle.drives.specs.declared.device.Half.{Half}
+use Rattle.ground_model.specs.Fronts.{AreOfTurn}
+use Rattle.pair_store.specs.declared.store.Blocks.{Ghosts}
+use Rattle.recovery.specs.Opening.{IsFailed, IsOpening}
+use Rattle.script_text.specs.declared.reply.LineReply.{LineReply}
+use Rattle.script_text.specs.declared.script.Line.{Line}
+use Rattle.service_model.specs.declared.journal.Entry.{Entry}
+use Rattle.service_model.specs.Entries.{standing_after}
+use Rattle.service_model.specs.Legal.{IsLegalFrom}
+use Rattle.service_model.specs.Standing.{lines_of}
+use Rattle.session.specs.Ends.{AreOf}
+use Rattle.session.specs.declared.session.Session.{Session}
+use Rattle.session.specs.declared.turned.Fault.{Fault}
+use Rattle.session.specs.declared.turned.Fault.TheVariants.{Drive, Bad}
+use Rattle.session.specs.declared.turned.Turned.{Turned}
+use Rattle.session.specs.declared.turned.Turned.TheVariants as turned
+use Rattle.store_model.specs.Found.{found}
+use Rattle.tree_model.specs.States.{State}
+use Rattle.ground.specs.Runs.{GroundValue, entries_in, scripts_in, store_in}
+
+-- ---- clients
+
+-- A client by its number, and what its lines were answered so far.
+abbrev pub session_of : {D : Type 0} → GroundValue D → ℕ → Option Session
+session_of g k = slice_get g.sessions (k - 1)
+
+abbrev pub replies_of : {D : Type 0} → GroundValue D → ℕ → List LineReply
+replies_of g k = option_map_or (λ (s : Session). s.course.replies.items) (session_of g k) []
+
+-- All lines of a client are answered.
+abbrev pub IsThrough : {D : Type 0} → GroundValue D → ℕ → Type 0
+IsThrough g k = length (replies_of g k) ≡ length (lines_of (scripts_in g) k)
+
+-- ---- what stays
+
+-- The run is one over the same store as it was opened, of the same scripts, and on as many blocks.
+pub record IsSameRun {D : Type 0} (b : Ghosts D) (g g' : GroundValue D) : Type 0 where
+  pub opened : g'.opened ≡ g.opened
+  pub scripts : scripts_in g' ≡ scripts_in g
+  pub size : b.size (store_in g') ≡ b.size (store_in g)
+
+-- The faults that came are not forgotten.
+pub record AreLater {D : Type 0} (b : Ghosts D) (g g' : GroundValue D) : Type 0 where
+  pub faults : (h : Half) → b.faults (store_in g) h ≤ b.faults (store_in g') h
+  pub last : (h : Half) → b.last_fault (store_in g) h ≤ b.last_fault (store_in g') h
+
+-- ---- answers
+
+-- The fault that a turn answers.
+abbrev pub fault_of : Turned → Option Fault
+fault_of (turned.Line n) = None
+fault_of turned.Again = None
+fault_of (turned.Work job) = None
+fault_of turned.Finished = None
+fault_of (turned.Stopped fault) = Some fault
+
+-- The next line of a client, which has this number, was answered.
+pub record IsAnswering {D : Type 0} (g g' : GroundValue D) (k n : ℕ) : Type 0 where
+  pub line : Line
+  pub next : slice_get (lines_of (scripts_in g) k) (length (replies_of g k)) ≡ Some line
+  pub number : n ≡ line.number
+  pub reply : LineReply
+  pub more : replies_of g' k ≡ replies_of g k ++ reply ∷ []
+
+-- By its answer, what a turn did to the client's own answers.
+abbrev pub AnswersTurn : {D : Type 0} → GroundValue D → GroundValue D → ℕ → Turned → Type 0
+AnswersTurn g g' k (turned.Line n) = IsAnswering g g' k n
+AnswersTurn g g' k turned.Again = replies_of g' k ≡ replies_of g k
+AnswersTurn g g' k (turned.Work job) = replies_of g' k ≡ replies_of g k
+AnswersTurn g g' k turned.Finished = IsThrough g k × (g' ≡ g)
+AnswersTurn g g' k (turned.Stopped fault) = replies_of g' k ≡ replies_of g k
+
+-- The other clients are as they were.
+abbrev pub OthersStay : {D : Type 0} → GroundValue D → GroundValue D → ℕ → Type 0
+OthersStay g g' k = (j : ℕ) → 1 ≤ j → j ≢ k → session_of g' j ≡ session_of g j
+
+-- ---- where contents are told
+
+-- The run is over a store as an opening leaves it, whose contents are told, and in which this state
+-- was found.
+pub record IsRunOf {D : Type 0} (b : Ghosts D) (g : GroundValue D) (opening : State) : Type 0 where
+  pub tells : b.tells
+  pub opened : IsOpening b g.opened
+  pub found : found (b.content g.opened.store) (b.size g.opened.store) ≡ Ok opening
+
+-- These entries came to the journal: they are of one client, legal and due where the journal stood,
+-- and those that change the state carry the moment as the turn returned.
+pub record HasNoted {D : Type 0} (b : Ghosts D) (opening : State) (g g' : GroundValue D) (k : ℕ)
+    (es : List Entry) : Type 0 where
+  pub entries : entries_in g' ≡ entries_in g ++ es
+  pub of_client : AreOf (scripts_in g) (standing_after opening (scripts_in g) (entries_in g)) k es
+  pub legal : IsLegalFrom (scripts_in g)
+      (standing_after opening (scripts_in g) (entries_in g)) es
+  pub moments : AreOfTurn (b.moment (store_in g')) es
+
+-- So it is after a turn that did not stop the run. A block that does not hold what its place says is
+-- never met.
+abbrev pub NotesTurn : {D : Type 0} → Ghosts D → State → GroundValue D → GroundValue D → ℕ → Turned
+    → Type 0
+NotesTurn b opening g g' k (turned.Line n) = (es : List Entry) × HasNoted b opening g g' k es
+NotesTurn b opening g g' k turned.Again = (es : List Entry) × HasNoted b opening g g' k es
+NotesTurn b opening g g' k (turned.Work job) = (es : List Entry) × HasNoted b opening g g' k es
+NotesTurn b opening g g' k turned.Finished = Unit {0}
+NotesTurn b opening g g' k (turned.Stopped (Drive half)) = Unit {0}
+NotesTurn b opening g g' k (turned.Stopped (Bad block why)) = ⊥
+
+-- ---- faults
+
+-- A half stopped a run that stood, only where it failed in the last call of the turn.
+abbrev pub IsStoppedBy : {D : Type 0} → Ghosts D → GroundValue D → GroundValue D → Turned → Type 0
+IsStoppedBy b g g' result =
+    (h : Half) → g.fault ≡ None → result ≡ turned.Stopped (Drive h)
+    → IsFailed (b.faults (store_in g)) (b.faults (store_in g')) (b.last_fault (store_in g'))
+    (b.moment (store_in g')) ((opening : State) → IsRunOf b g opening → ⊥) h

@@ -1,0 +1,158 @@
+ghost use Rattle.std.specs.Prelude.{◌≡◌, ◌≤◌, IfErr, IfOk, None, Some, length};
+ghost use Rattle.service_model.specs.Sound.{AreSayable};
+ghost use Rattle.session.specs.Calls.{IsCounted};
+ghost use Rattle.session.specs.Opening.{IsWithin};
+ghost use Rattle.session.specs.declared.turned.Fault.{Fault};
+ghost use Rattle.tree_model.specs.States.{State};
+ghost use Rattle.ground.specs.Grounds.{IsGround};
+ghost use Rattle.ground.specs.Making.{AreAllBuilt, AreNewcomers, HasBegun, room_for};
+ghost use Rattle.ground.specs.Runs.{journal_in, scripts_of, store_in};
+ghost use Rattle.ground.specs.Turning.{AnswersTurn, AreLater, IsRunOf, IsSameRun, IsStoppedBy, IsThrough, NotesTurn, OthersStay, fault_of};
+
+// A run of clients.
+
+use crate::making::{room_for, sessions_of};
+use afs_base::{ClientNo, Memory};
+use page_merge::Done;
+use pair_store::Blocks;
+use recovery::OpenedOver;
+use script_text::Script;
+use service_model::{Journal, scripts_are_sayable};
+use session::{Common, Fault, Session, Turned};
+use std::alloc::Global;
+use std::marker::Model;
+use std::snapshot::Snapshot;
+
+/// A run of clients over a store of blocks.
+#[derive(Drop)]
+pub struct GroundOver<B: Blocks> {
+    opened: Snapshot<OpenedOver<B>>,
+    common: Common<B>,
+    sessions: Vec<Session>,
+    fault: Option<Fault>,
+}
+
+impl<B: Blocks> Model for GroundOver<B> {
+    ghost use Rattle.ground.specs.Runs.{GroundValue};
+    ghost use Rattle.ground.specs.Grounds.{IsGround};
+
+    ghost Value = { GroundValue B };
+
+    ghost view = { λ g. record {
+      opened = g.opened.value;
+      common = g.common;
+      sessions = g.sessions.items;
+      fault = g.fault;
+    } };
+
+    ghost invariant = { λ g. IsGround B.Blocks (record {
+      opened = g.opened.value;
+      common = g.common;
+      sessions = g.sessions.items;
+      fault = g.fault;
+    }) };
+}
+
+/// The fault that a turn answers.
+fn fault_of(turned: &Turned) -> Option<Fault>
+    ensures { result ≡ fault_of turned.now }
+{
+    match turned {
+        Turned::Stopped { fault } => Some(*fault),
+        Turned::Line { .. } | Turned::Again | Turned::Work(_) | Turned::Finished => None,
+    }
+}
+
+/// The run of these clients over a store that was opened, with room for so many entries.
+fn begun<B: Blocks>(
+    alloc: Global,
+    opened: OpenedOver<B>,
+    sessions: Vec<Session>,
+    room: usize,
+) -> Result<GroundOver<B>, (B, Memory)>
+    requires sayable { AreSayable (scripts_of sessions.items) }
+    requires clients { AreNewcomers (scripts_of sessions.items) sessions.items }
+    requires some { 1 ≤ length sessions.items }
+    requires most { length sessions.items ≤ 16 }
+    requires room { room_for (scripts_of sessions.items) ≤ room }
+    requires within { IsWithin B.size opened }
+    ensures begun { IfOk result (HasBegun opened (scripts_of sessions.items)) }
+    ensures back { IfErr result (λ e. e.0 ≡ opened.store) }
+{
+    let seen = Snapshot::of(&opened);
+    let common = Common::over(alloc, opened, room)?;
+    Ok(GroundOver {
+        opened: seen,
+        common,
+        sessions,
+        fault: None,
+    })
+}
+
+impl<B: Blocks> GroundOver<B> {
+    /// A run of 1 to 16 scripts over a store that was opened, client 1 playing the first one. All memory that
+    /// its turns need is taken here; where there is not enough, the store comes back.
+    pub fn make(
+        alloc: Global,
+        opened: OpenedOver<B>,
+        scripts: Vec<Script>,
+    ) -> Result<GroundOver<B>, (B, Memory)>
+        requires some { 1 ≤ length scripts.items }
+        requires most { length scripts.items ≤ 16 }
+        requires built { AreAllBuilt scripts.items }
+        requires within { IsWithin B.size opened }
+        ensures begun { IfOk result (HasBegun opened scripts.items) }
+        ensures back { IfErr result (λ e. e.0 ≡ opened.store) }
+    {
+        scripts_are_sayable(scripts.as_slice());
+        let room = room_for(scripts.as_slice());
+        match sessions_of(alloc, scripts) {
+            Ok(sessions) => begun(alloc, opened, sessions, room),
+            Err(memory) => Err((opened.store, memory)),
+        }
+    }
+
+    /// One turn of a client, in which at most one operation on a block is made. Once a fault stopped the run,
+    /// every turn answers that fault, and nothing changes. What is offered as the outcome of the pages that wait
+    /// to be merged is taken where it is that of these very pages.
+    pub fn turn(&mut self, client: ClientNo, offer: Option<&Done>) -> Turned
+        requires { client ≤ length self.old.sessions }
+        ensures run { IsSameRun B.Blocks self.old self.new }
+        ensures stays { (fault : Fault) → self.old.fault ≡ Some fault
+            → (result ≡ Turned.Stopped fault) × (self.new ≡ self.old) }
+        ensures fault { self.new.fault ≡ fault_of result }
+        ensures answers { AnswersTurn self.old self.new client result }
+        ensures others { OthersStay self.old self.new client }
+        ensures finished { IsThrough self.old client → self.old.fault ≡ None
+            → result ≡ Turned.Finished }
+        ensures counted { IsCounted (B.count (store_in self.old)) (B.count (store_in self.new))
+            result }
+        ensures later { AreLater B.Blocks self.old self.new }
+        ensures stopped { IsStoppedBy B.Blocks self.old self.new result }
+        // Where contents are told, over a store as an opening leaves it.
+        ensures notes { (opening : State) → IsRunOf B.Blocks self.old opening
+            → NotesTurn B.Blocks opening self.old self.new client result }
+    {
+        if let Some(fault) = self.fault {
+            return Turned::Stopped { fault };
+        }
+        let session = &mut self.sessions[client.get() as usize - 1];
+        let turned = session.turn(&mut self.common, offer);
+        self.fault = fault_of(&turned);
+        turned
+    }
+
+    /// What the run did so far.
+    pub fn journal(&self) -> &Journal
+        ensures { result.now ≡ journal_in self.now }
+    {
+        self.common.journal()
+    }
+
+    /// How many operations on blocks were made.
+    pub fn operations(&self) -> u64
+        ensures { result ≡ B.count (store_in self.now) }
+    {
+        self.common.operations()
+    }
+}

@@ -1,0 +1,8 @@
+//! A run of up to sixteen clients over a store, a turn at a time.
+#![tactic(auto)]
+
+mod ground;
+mod making;
+
+pub use ground::GroundOver;
+pub use session::{Fault, Turned};

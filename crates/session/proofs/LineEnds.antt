@@ -1,0 +1,242 @@
+-- A turn that did something for its line and then answered it.
+use Rattle.std.proofs.Common.{◌≡◌, ◌≢◌, ◌⊎◌, inl, inr, ℕ, zero, suc, ◌+◌, ◌^◌, ◌<◌, ◌≤◌, ◌==◌, Bool, true, false, List, [], ◌∷◌, ◌++◌, length, length-append, Option, Some, None, refl, sym, ap, ◌∙◌, subst, arith, slice_get, get_or}
+use Rattle.std.specs.Prelude.{IfSome}
+use Rattle.std.proofs.lemmas.Option.{slice_get-get_or}
+use Rattle.drives.specs.declared.device.Half.{Half}
+use Rattle.drives.proofs.Composing.{stays}
+use Rattle.pair_store.specs.Blocks.{CountsOne, SameContents}
+use Rattle.pair_store.specs.declared.store.Blocks.{Ghosts}
+use Rattle.pool_draft.specs.Roots.{object_in, root_in, serial_in}
+use Rattle.pool_draft.specs.Sets.{base_at, roots_of, view_at}
+use Rattle.pool_draft.specs.declared.pool_set.PoolSet.{PoolSet}
+use Rattle.script_text.specs.ScriptValue.{ScriptValue}
+use Rattle.script_text.specs.declared.reply.LineReply.{LineReply}
+use Rattle.script_text.specs.declared.script.Line.{Line}
+use Rattle.service_model.specs.declared.journal.Entry.{Entry}
+use Rattle.service_model.specs.Standing.{Scripts, Client, Update, Work}
+use Rattle.ground_model.specs.Leaves.{KeepsVersions}
+use Rattle.ground_model.specs.Lines.{IsAt}
+use Rattle.ground_model.specs.Own.{HasDraft}
+use Rattle.ground_model.specs.Runs.{IsRead}
+use Rattle.ground_model.specs.Scenes.{Scene}
+use Rattle.ground_model.proofs.Drafting.{draft_stays_own}
+use Rattle.session.specs.Answers.{AreLeft, IsAnswered, IsCleared, NotesAlone, ending, gives_up}
+use Rattle.session.specs.Reads.{StoreAlone}
+use Rattle.session.specs.Calls.{IsReady}
+use Rattle.session.specs.Own.{HasFed, IsAtRest, IsPlain, OwnsUpdate}
+use Rattle.session.specs.Safe.{AreSafeDrafts, drafts_of, line_of, root_of, view_of}
+use Rattle.session.specs.Shared.{room_of}
+use Rattle.session.specs.Values.{RepliesValue}
+use Rattle.session.specs.declared.common.Common.{Common}
+use Rattle.session.specs.declared.course.Course.{Course}
+use Rattle.session.specs.declared.stage.Stage.TheVariants.{Resting}
+use Rattle.session.proofs.Answering.{HasAnswered, IsAfter}
+use Rattle.session.proofs.Ending.{its_next, left_with}
+use Rattle.session.proofs.Going.{SharesOn, shares_noted, shares_read, shares_same, shares_trans}
+
+-- ---- the line
+
+pub line_is : (script : ScriptValue) (s : Course) → length s.replies.items < length script.lines → (line : Line) × (line_of script s ≡ Some line)
+line_is script s low = by script.lines low
+  where
+    by : (lines : List Line) → length s.replies.items < length lines → (line : Line) × (slice_get lines (length s.replies.items) ≡ Some line)
+    by [] below = absurd (omega (arith, below))
+    by (x ∷ lines) below = (get_or (x ∷ lines) (length s.replies.items) x, slice_get-get_or (x ∷ lines) (length s.replies.items) x below)
+
+-- what is said of the line that there is
+pub for_line : (o : Option Line) (P : Line → Type 0) (line : Line) → o ≡ Some line → IfSome o P → P line
+for_line o P line is said = subst (λ (x : Option Line). IfSome x P) is said
+
+pub same_line : (script : ScriptValue) (s : Course) (a b : Line) → line_of script s ≡ Some a → line_of script s ≡ Some b → a ≡ b
+same_line script s a b one two = (let both : Some a ≡ Some b = sym one ∙ two in cc)
+
+pub at_line : (scripts : Scripts) (scene : Scene) (script : ScriptValue) (s : Course) (line : Line) → IsAtRest scripts scene script s → line_of script s ≡ Some line
+    → IsAt scripts scene.standing s.client line
+at_line scripts scene script s line rest next = record {
+  resting = record { client = rest.seated.client; fresh = rest.fresh; held = rest.held; idle = rest.seated.idle };
+  next = its_next scripts script scene s rest.seated ∙ next;
+}
+
+-- a store that was not touched
+pub untouched : {D : Type 0} (b : Ghosts D) → ((d : D) → b.moment d < 2 ^ 64) → (old new : D) → new ≡ old → IsRead b old new
+untouched {D} b clock old new same =
+    subst (λ (d : D). IsRead b old d) (sym same)
+    (record { size = refl; same = λ n. refl; settled = λ n is. is; images = stays b.moment b.may_leave old SameContents (clock old) (λ f n. refl) })
+
+-- ---- numbers
+
+-- Before its answer the turn noted these entries; at most one block was read. The client holds what it held, and rests.
+pub record HasCome {D : Type 0} (b : Ghosts D) (es : List Entry) (c mid : Common D) (s t : Course) : Type 0 where
+  pub shares : SharesOn c mid es c.map
+  pub size : b.size mid.store ≡ b.size c.store
+  pub room : room_of mid ≡ room_of c
+  pub faults : (h : Half) → b.faults c.store h ≤ b.faults mid.store h
+  pub last : (h : Half) → b.last_fault c.store h ≤ b.last_fault mid.store h
+  pub count : (b.count mid.store ≡ b.count c.store) ⊎ CountsOne (b.count c.store) (b.count mid.store)
+  pub few : length es ≤ 1
+  pub client : t.client ≡ s.client
+  pub replies : t.replies ≡ s.replies
+  pub held : t.held ≡ s.held
+  pub stage : t.stage ≡ Resting
+  pub drafts : AreSafeDrafts (b.size c.store) t.drafts (drafts_of t)
+
+-- The client may come to this course before its answer.
+pub record MayCome {D : Type 0} (b : Ghosts D) (c : Common D) (s t : Course) : Type 0 where
+  pub client : t.client ≡ s.client
+  pub replies : t.replies ≡ s.replies
+  pub held : t.held ≡ s.held
+  pub stage : t.stage ≡ Resting
+  pub drafts : AreSafeDrafts (b.size c.store) t.drafts (drafts_of t)
+
+pub may_stay : {D : Type 0} (b : Ghosts D) (script : ScriptValue) (c : Common D) (s : Course) → IsReady b script c s → MayCome b c s s
+may_stay b script c s ready = record { client = refl; replies = refl; held = refl; stage = ready.stage; drafts = ready.safe.drafts }
+
+-- nothing that is shared changed before the answer
+pub come_to : {D : Type 0} (b : Ghosts D) (c : Common D) (s t : Course) → MayCome b c s t → HasCome b [] c c s t
+come_to b c s t may = record {
+  shares = shares_same c;
+  size = refl;
+  room = refl;
+  faults = λ h. omega arith;
+  last = λ h. omega arith;
+  count = inl refl;
+  few = omega arith;
+  client = may.client;
+  replies = may.replies;
+  held = may.held;
+  stage = may.stage;
+  drafts = may.drafts;
+}
+
+-- a block was read before it
+pub come_read : {D : Type 0} (b : Ghosts D) (c mid : Common D) (s t : Course) → StoreAlone b c mid → CountsOne (b.count c.store) (b.count mid.store) → MayCome b c s t → HasCome b [] c mid s t
+come_read {D} b c mid s t alone one may = record {
+  shares = shares_read b c mid alone;
+  size = alone.size;
+  room = ap (λ (x : Common D). room_of x) alone.only;
+  faults = alone.faults;
+  last = alone.last;
+  count = inr one;
+  few = omega arith;
+  client = may.client;
+  replies = may.replies;
+  held = may.held;
+  stage = may.stage;
+  drafts = may.drafts;
+}
+
+-- an entry was noted before it
+pub come_noted : {D : Type 0} (b : Ghosts D) (e : Entry) (c mid new : Common D) (s t : Course) → HasCome b [] c mid s t → NotesAlone mid new (e ∷ []) → HasCome b (e ∷ []) c new s t
+come_noted {D} b e c mid new s t come is = record {
+  shares = shares_trans c mid new [] (e ∷ []) c.map come.shares (shares_noted mid new (e ∷ []) is);
+  size = ap (λ (x : Common D). b.size x.store) is.only ∙ come.size;
+  room = is.noted.room ∙ come.room;
+  faults = λ h. subst (λ n. b.faults c.store h ≤ n) (sym (ap (λ (x : Common D). b.faults x.store h) is.only)) (come.faults h);
+  last = λ h. subst (λ n. b.last_fault c.store h ≤ n) (sym (ap (λ (x : Common D). b.last_fault x.store h) is.only)) (come.last h);
+  count = subst (λ n. (n ≡ b.count c.store) ⊎ CountsOne (b.count c.store) n) (sym (ap (λ (x : Common D). b.count x.store) is.only)) come.count;
+  few = omega arith;
+  client = come.client;
+  replies = come.replies;
+  held = come.held;
+  stage = come.stage;
+  drafts = come.drafts;
+}
+
+ending_short : (k : ℕ) (line : Line) (b : Bool) → length (ending k line b) ≤ 2
+ending_short k line false = omega arith
+ending_short k line true = omega arith
+
+-- whether an update is given up depends on the answers alone
+same_end : (script : ScriptValue) (s t : Course) (n : ℕ) → t.replies ≡ s.replies → gives_up script t n ≡ gives_up script s n
+same_end script s t zero same = refl
+same_end script s t (suc n) same = ap (λ (r : RepliesValue). length r.items + 1 == length script.lines) same
+
+pub cleared_safe : (size : ℕ) (set : PoolSet) → IsCleared set → AreSafeDrafts size set (roots_of set)
+cleared_safe size set cleared = subst (λ n. AreSafeDrafts size set n) (sym cleared.none) (cleared.count, cleared.fed)
+
+safe_left : (size : ℕ) (old new : PoolSet) (b : Bool) → AreLeft old new b → AreSafeDrafts size old (roots_of old) → AreSafeDrafts size new (roots_of new)
+safe_left size old new false same safe = subst (λ (x : PoolSet). AreSafeDrafts size x (roots_of x)) (sym same) safe
+safe_left size old new true cleared safe = cleared_safe size new cleared
+
+module _ {D : Type 0} (b : Ghosts D) (script : ScriptValue) (line : Line) (reply : LineReply) (es : List Entry) (c mid c' : Common D) (s t s' : Course)
+    (come : HasCome b es c mid s t) (is : IsAnswered script line reply mid c' t s') where
+  ends : (k : Bool) → k ≡ gives_up script t (roots_of t.drafts) → ending t.client line (gives_up script t (roots_of t.drafts)) ≡ ending s.client line k
+  ends k same = ap (λ n. ending n line (gives_up script t (roots_of t.drafts))) come.client ∙ ap (ending s.client line) (sym same)
+
+  -- what is noted with the answer
+  abbrev pub at_end : Bool
+  at_end = gives_up script s (roots_of t.drafts)
+
+  end_same : gives_up script t (roots_of t.drafts) ≡ at_end
+  end_same = same_end script s t (roots_of t.drafts) come.replies
+
+  pub drafts_left : AreLeft t.drafts s'.drafts at_end
+  drafts_left = subst (AreLeft t.drafts s'.drafts) end_same is.drafts
+
+  shared : SharesOn c c' (es ++ ending s.client line at_end) c.map
+  shared =
+      subst (λ xs. SharesOn c c' (es ++ xs) c.map) (ends at_end (sym end_same))
+      (shares_trans c mid c' es (ending t.client line (gives_up script t (roots_of t.drafts))) c.map come.shares
+      (shares_noted mid c' (ending t.client line (gives_up script t (roots_of t.drafts))) is.noted))
+
+  -- so the line was answered
+  pub come_answered : HasAnswered b reply (es ++ ending s.client line at_end) c c' s s'
+  come_answered = record {
+    shares = shared;
+    size = ap (λ (x : Common D). b.size x.store) is.noted.only ∙ come.size;
+    room = is.noted.noted.room ∙ come.room;
+    faults = λ h. subst (λ n. b.faults c.store h ≤ n) (sym (ap (λ (x : Common D). b.faults x.store h) is.noted.only)) (come.faults h);
+    last = λ h. subst (λ n. b.last_fault c.store h ≤ n) (sym (ap (λ (x : Common D). b.last_fault x.store h) is.noted.only)) (come.last h);
+    count = subst (λ n. (n ≡ b.count c.store) ⊎ CountsOne (b.count c.store) n) (sym (ap (λ (x : Common D). b.count x.store) is.noted.only)) come.count;
+    few = (let both = length-append es (ending s.client line at_end) in let two = come.few in let short = ending_short s.client line at_end in omega (arith, both, two, short));
+    client = ap (λ (x : Course). x.client) is.only ∙ come.client;
+    replies = ap (λ (x : Course). x.replies) is.only ∙ ap (λ (r : RepliesValue). record r { items = r.items ++ reply ∷ [] }) come.replies;
+    held = ap (λ (x : Course). x.held) is.only ∙ come.held;
+    stage = ap (λ (x : Course). x.stage) is.only ∙ come.stage;
+    drafts = safe_left (b.size c.store) t.drafts s'.drafts at_end drafts_left come.drafts;
+  }
+
+pub after_answer : {D : Type 0} (b : Ghosts D) (reply : LineReply) (es : List Entry) (c c' : Common D) (s s' : Course) → HasAnswered b reply es c c' s s' → s.held ≡ 0 → IsAfter reply s s'
+after_answer b reply es c c' s s' is none = record { client = is.client; replies = ap (λ (r : RepliesValue). r.items) is.replies; held = is.held ∙ none; stage = is.stage }
+
+-- ---- updates
+
+-- a client with drafts has an update
+pub own_is_open : (scene : Scene) (script : ScriptValue) (s : Course) (o : Option Update) → OwnsUpdate scene script s o → drafts_of s ≢ 0 → (u : Update) × (o ≡ Some u)
+own_is_open scene script s None own some = absurd (some own)
+own_is_open scene script s (Some u) own some = (u, refl)
+
+-- and one without has none
+pub own_is_none : (scene : Scene) (script : ScriptValue) (s : Course) (o : Option Update) → OwnsUpdate scene script s o → drafts_of s ≡ 0 → o ≡ None
+own_is_none scene script s None own none = refl
+own_is_none scene script s (Some u) own none = (let one = own.plain.drafts in absurd (omega (arith, one, none)))
+
+pub plain_same : (s s' : Course) (u : Update) (w : Work) → s'.drafts ≡ s.drafts → s'.rights ≡ s.rights → IsPlain s u w → IsPlain s' u w
+plain_same s s' u w same rights plain = record {
+  plain = plain.plain;
+  works = plain.works;
+  picked = plain.picked;
+  drafts = ap roots_of same ∙ plain.drafts;
+  count = plain.count ∙ sym (ap (λ (d : PoolSet). d.count) same);
+  rights = plain.rights ∙ sym rights;
+  object = ap (λ (d : PoolSet). object_in (base_at d 0)) same ∙ plain.object;
+}
+
+-- what a client drafts stays so where its draft does, and every version is there again
+pub own_stays : (scene after : Scene) (script : ScriptValue) (s s' : Course) (o : Option Update) → KeepsVersions scene after → s'.drafts ≡ s.drafts → s'.rights ≡ s.rights → (drafts_of s ≡ 1 → HasFed script s → HasFed script s')
+    → OwnsUpdate scene script s o → OwnsUpdate after script s' o
+own_stays scene after script s s' None keeps same rights fed own = ap roots_of same ∙ own
+own_stays scene after script s s' (Some u) keeps same rights fed own = record {
+  work = own.work;
+  plain = plain_same s s' u own.work same rights own.plain;
+  serial = ap (λ (d : PoolSet). serial_in (base_at d 0)) same ∙ own.serial;
+  draft = draft_stays_own scene after own.work (root_of s') (view_of s') keeps
+      (subst (λ (d : PoolSet). HasDraft scene own.work (root_in (base_at d 0)) (view_at d 0)) (sym same) own.draft);
+  fed = fed own.plain.drafts own.fed;
+}
+
+-- as a line ends the client drafts what it drafted, or nothing
+pub own_left : (after : Scene) (script : ScriptValue) (old : PoolSet) (s' : Course) (c : Client) (b : Bool) → AreLeft old s'.drafts b → (s'.drafts ≡ old → OwnsUpdate after script s' c.update)
+    → OwnsUpdate after script s' (left_with c b).update
+own_left after script old s' c false left own = own left
+own_left after script old s' c true left own = left.none

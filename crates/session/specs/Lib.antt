@@ -1,0 +1,16 @@
+pub mod Values
+pub mod Shared
+pub mod Safe
+pub mod Own
+pub mod Ends
+pub mod Calls
+pub mod Reads
+pub mod Names
+pub mod Answers
+pub mod Built
+pub mod Walks
+pub mod Blocks
+pub mod Links
+pub mod Sessions
+pub mod Laws
+pub mod Opening
