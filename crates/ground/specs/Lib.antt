@@ -2,3 +2,4 @@ pub mod Runs
 pub mod Grounds
 pub mod Turning
 pub mod Making
+pub mod Promises

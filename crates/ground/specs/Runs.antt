@@ -1,5 +1,5 @@
 -- What contracts see of a run of clients.
-use Rattle.std.specs.Prelude.{ℕ, List, map, Option}
+use Rattle.std.specs.Prelude.{ℕ, ◌-◌, ◌^◌, List, map, min, Option, sum_by}
 use Rattle.recovery.specs.declared.opened.OpenedOver.{OpenedOver}
 use Rattle.service_model.specs.declared.journal.Entry.{Entry}
 use Rattle.service_model.specs.declared.journal.Journal.{Journal}
@@ -35,3 +35,7 @@ store_in g = g.common.store
 
 abbrev pub first_in : {D : Type 0} → GroundValue D → ℕ
 first_in g = g.opened.since
+
+-- How many pairs of pages the clients merged themselves, a number that stands still at its last value.
+abbrev pub own_merges_in : {D : Type 0} → GroundValue D → ℕ
+own_merges_in g = min (sum_by (λ (s : Session). s.course.merges) g.sessions) (2 ^ 64 - 1)

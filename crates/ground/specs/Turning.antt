@@ -12,6 +12,7 @@ use Rattle.service_model.specs.Entries.{standing_after}
 use Rattle.service_model.specs.Legal.{IsLegalFrom}
 use Rattle.service_model.specs.Standing.{lines_of}
 use Rattle.session.specs.Ends.{AreOf}
+use Rattle.session.specs.Sessions.{IsReplyTo}
 use Rattle.session.specs.declared.session.Session.{Session}
 use Rattle.session.specs.declared.turned.Fault.{Fault}
 use Rattle.session.specs.declared.turned.Fault.TheVariants.{Drive, Bad}
@@ -76,6 +77,12 @@ AnswersTurn g g' k (turned.Stopped fault) = replies_of g' k ≡ replies_of g k
 -- The other clients are as they were.
 abbrev pub OthersStay : {D : Type 0} → GroundValue D → GroundValue D → ℕ → Type 0
 OthersStay g g' k = (j : ℕ) → 1 ≤ j → j ≢ k → session_of g' j ≡ session_of g j
+
+-- The line of a client that has this number was answered so.
+pub record IsAnswered {D : Type 0} (g : GroundValue D) (k number : ℕ) (reply : LineReply) : Type 0 where
+  pub client : Session
+  pub is : session_of g k ≡ Some client
+  pub answer : IsReplyTo client.script client.course number reply
 
 -- ---- where contents are told
 

@@ -1,13 +1,17 @@
-ghost use Rattle.std.specs.Prelude.{◌≡◌, ◌≤◌, IfErr, IfOk, None, Some, length};
+ghost use Rattle.std.specs.Prelude.{◌≡◌, ◌≤◌, IfErr, IfOk, MatchOption, None, Some, length};
 ghost use Rattle.service_model.specs.Sound.{AreSayable};
 ghost use Rattle.session.specs.Calls.{IsCounted};
-ghost use Rattle.session.specs.Opening.{IsWithin};
+ghost use Rattle.script_text.specs.declared.reply.LineReply.{LineReply};
+ghost use Rattle.service_model.specs.Entries.{serial_state};
+ghost use Rattle.session.specs.Names.{HasNoHead};
+ghost use Rattle.session.specs.Opening.{IsWithin, TellsSerials};
 ghost use Rattle.session.specs.declared.turned.Fault.{Fault};
 ghost use Rattle.tree_model.specs.States.{State};
 ghost use Rattle.ground.specs.Grounds.{IsGround};
 ghost use Rattle.ground.specs.Making.{AreAllBuilt, AreNewcomers, HasBegun, room_for};
-ghost use Rattle.ground.specs.Runs.{journal_in, scripts_of, store_in};
-ghost use Rattle.ground.specs.Turning.{AnswersTurn, AreLater, IsRunOf, IsSameRun, IsStoppedBy, IsThrough, NotesTurn, OthersStay, fault_of};
+ghost use Rattle.ground.specs.Runs.{entries_in, journal_in, own_merges_in, scripts_in, scripts_of, store_in};
+ghost use Rattle.ground.specs.Promises.{IsPromised, kept_in};
+ghost use Rattle.ground.specs.Turning.{AnswersTurn, AreLater, IsAnswered, IsRunOf, IsSameRun, IsStoppedBy, IsThrough, NotesTurn, OthersStay, fault_of};
 
 // A run of clients.
 
@@ -16,7 +20,7 @@ use afs_base::{ClientNo, Memory};
 use page_merge::Done;
 use pair_store::Blocks;
 use recovery::OpenedOver;
-use script_text::Script;
+use script_text::{LineReply, Script};
 use service_model::{Journal, scripts_are_sayable};
 use session::{Common, Fault, Session, Turned};
 use std::alloc::Global;
@@ -154,5 +158,56 @@ impl<B: Blocks> GroundOver<B> {
         ensures { result ≡ B.count (store_in self.now) }
     {
         self.common.operations()
+    }
+
+    /// The answer to the line of a client that has this number in its script, where it is answered.
+    pub fn reply(&self, client: ClientNo, line: u32) -> Option<&LineReply>
+        ensures { MatchOption result
+            ((reply : LineReply) → IsAnswered self.now client line reply → ⊥)
+            (λ reply. IsAnswered self.now client line reply.now) }
+    {
+        let session = self.sessions.get(client.get() as usize - 1)?;
+        session.reply_to(line)
+    }
+
+    /// The serials of the first and of the last version that an object's file keeps, where the object is live.
+    /// After a fault they are those that were known before it.
+    pub fn kept(&self, object: u32) -> Option<(u64, u64)>
+        ensures known { MatchOption result (HasNoHead self.now.common.heads.items object)
+            (TellsSerials self.now.common.heads.items object) }
+        ensures kept { (opening : State) → IsRunOf B.Blocks self.now opening
+            → self.now.fault ≡ None → result
+            ≡ kept_in (serial_state opening (scripts_in self.now) (entries_in self.now)) object }
+    {
+        self.common.kept(object)
+    }
+
+    /// How many pairs of pages the clients merged themselves, a number that stands still at its last value.
+    pub fn own_merges(&self) -> u64
+        ensures { result ≡ own_merges_in self.now }
+    {
+        let mut merges: u64 = 0;
+        for session in &self.sessions {
+            merges = merges.saturating_add(session.merges());
+        }
+        merges
+    }
+
+    /// Runs nothing. Its contract: what is promised of the run, over a store as an opening leaves it.
+    pub fn promise(&self)
+        ensures { (opening : State) → IsRunOf B.Blocks self.now opening
+            → IsPromised B.Blocks opening self.now }
+    {
+        let _common = &self.common;
+    }
+
+    /// The end of the run: its store, and what it did.
+    pub fn end(self) -> (B, Journal)
+        ensures parts { result ≡ (store_in self, journal_in self) }
+        ensures promise { (opening : State) → IsRunOf B.Blocks self opening
+            → IsPromised B.Blocks opening self }
+    {
+        let GroundOver { common, .. } = self;
+        common.end()
     }
 }

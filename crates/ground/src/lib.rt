@@ -2,7 +2,9 @@
 #![tactic(auto)]
 
 mod ground;
+mod halves;
 mod making;
 
 pub use ground::GroundOver;
+pub use halves::{Ground, on_halves};
 pub use session::{Fault, Turned};

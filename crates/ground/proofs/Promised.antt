@@ -1,0 +1,115 @@
+-- What a run promises, from what its type keeps.
+use Rattle.std.proofs.Common.{◌≡◌, inl, ℕ, zero, suc, ◌-◌, ◌<◌, ◌≤◌, List, [], ◌∷◌, length, Option, Some, None, Result, Ok, refl, sym, ap, ◌∙◌, subst, arith}
+use Rattle.std.specs.Prelude.{slice_get}
+use Rattle.std.specs.Option.{option_map_or}
+use Rattle.pair_store.specs.declared.store.Blocks.{Ghosts}
+use Rattle.service_model.specs.Standing.{client_of}
+use Rattle.store_changes.specs.Writes.{Content}
+use Rattle.store_model.specs.Found.{LaidStore, found, laid, state_of}
+use Rattle.store_model.specs.Walk.{Refused}
+use Rattle.tree_model.specs.States.{State}
+use Rattle.ground_model.specs.Fronts.{AllRecovered, IsFront}
+use Rattle.ground_model.specs.Runs.{Stands, images_of}
+use Rattle.ground_model.specs.Scenes.{Scene}
+use Rattle.ground_model.specs.Scenes.{Scene}
+use Rattle.script_text.specs.ScriptValue.{ScriptValue}
+use Rattle.service_model.specs.Standing.{Scripts}
+use Rattle.session.specs.Own.{IsSeated, OwnsStage}
+use Rattle.session.specs.declared.course.Course.{Course}
+use Rattle.session.specs.declared.stage.Stage.{Stage}
+use Rattle.session.specs.declared.stage.Stage.TheVariants.{Resting, Naming, Walking, Writing}
+use Rattle.session.specs.declared.session.Session.{Session}
+use Rattle.session.specs.declared.turned.Fault.{Fault}
+use Rattle.session.specs.declared.turned.Fault.TheVariants.{Drive, Bad}
+use Rattle.ground.specs.Grounds.{AllStand, AreClients, HasRun, IsGround, StandsOr}
+use Rattle.ground.specs.Promises.{AreMade, IsPromised, IsStanding, StandsNow}
+use Rattle.ground.specs.Runs.{GroundValue, entries_in, first_in, journal_in, scripts_in, store_in}
+use Rattle.ground.specs.Turning.{IsRunOf, replies_of}
+
+-- at each stage a client is one of the run
+seat_of : (scripts : Scripts) (scene : Scene) (script : ScriptValue) (s : Course) (stage : Stage) → OwnsStage scripts scene script s stage → IsSeated scripts scene script s
+seat_of scripts scene script s Resting h = h.seated
+seat_of scripts scene script s (Naming next) h = h.merged.committing.seated
+seat_of scripts scene script s (Walking walk) h = h.committing.seated
+seat_of scripts scene script s (Writing flush) h = h.merged.committing.seated
+
+same_store : (o : Result (LaidStore × List ℕ) Refused) (s r : LaidStore) (p q : List ℕ) → o ≡ Ok (s, p) → o ≡ Ok (r, q) → s ≡ r
+same_store o s r p q one two = (let same : (s, p) ≡ (r, q) = cc in ap (λ (x : LaidStore × List ℕ). x.0) same)
+
+past_end : {X : Type 0} (xs : List X) (i : ℕ) → slice_get xs i ≡ None → length xs ≤ i
+past_end [] i e = omega arith
+past_end (x ∷ xs) zero e = absurd cc
+past_end (x ∷ xs) (suc i) e = (let rest = past_end xs i e in omega (arith, rest))
+
+-- ---- a run that stands
+
+module _ {D : Type 0} (b : Ghosts D) (g : GroundValue D) (clients : AreClients g.sessions) (opening : State) (a : AllStand b opening (first_in g) g.common g.sessions) where
+  stood : Stands b opening (scripts_in g) (first_in g) a.scene (store_in g) (entries_in g)
+  stood = a.stands.stands
+
+  laid_now : laid (b.content (store_in g)) (b.size (store_in g)) [] ≡ Ok (a.scene.store, a.scene.places)
+  laid_now =
+      let F : Content → Type 0 = λ f. laid f (b.size (store_in g)) [] ≡ Ok (a.scene.store, a.scene.places) in
+      subst F stood.content (subst (λ n. laid a.scene.content n [] ≡ Ok (a.scene.store, a.scene.places)) stood.most stood.shared.laid)
+
+  blocks_are : a.scene.store.root.blocks ≡ a.scene.standing.state.blocks
+  blocks_are = ap (λ (s : State). s.blocks) stood.shared.state
+
+  made_here : (store : LaidStore) (places : List ℕ) → laid (b.content (store_in g)) (b.size (store_in g)) [] ≡ Ok (store, places) → AreMade store a.scene.standing.made
+  made_here store places is =
+      let same : a.scene.store ≡ store = same_store (laid (b.content (store_in g)) (b.size (store_in g)) []) a.scene.store store a.scene.places places laid_now is in
+      subst (λ s. AreMade s a.scene.standing.made) same stood.shared.made
+
+  answered : (k : ℕ) → 1 ≤ k → k ≤ length g.sessions → replies_of g k ≡ (client_of a.scene.standing k).answers
+  answered k low high = by (slice_get g.sessions (k - 1)) refl
+    where
+      by : (o : Option Session) → slice_get g.sessions (k - 1) ≡ o → option_map_or (λ (s : Session). s.course.replies.items) o [] ≡ (client_of a.scene.standing k).answers
+      by None none = absurd (let past = past_end g.sessions (k - 1) none in omega (arith, past, low, high))
+      by (Some s) at =
+          let seat = seat_of (scripts_in g) a.scene s.script s.course s.course.stage (a.own (k - 1) s at) in
+          let number : s.course.client ≡ k = (let n = clients.numbers (k - 1) s at in omega (arith, n, low)) in
+          sym seat.answers ∙ ap (λ n. (client_of a.scene.standing n).answers) number
+
+  standing_is : IsStanding b g a.scene.standing
+  standing_is = record {
+    doubt = a.stands.sure;
+    state = ap state_of laid_now ∙ ap (λ s. Ok s) stood.shared.state;
+    settled = λ n low. stood.settled n (subst (λ m. n < m) (sym blocks_are) low);
+    made = made_here;
+    answers = answered;
+  }
+
+  recovered_is : AllRecovered (images_of b (b.size (store_in g))) opening (scripts_in g) (first_in g) (store_in g) (journal_in g)
+  recovered_is t x low high may = inl (subst (λ n. IsFront opening (scripts_in g) (entries_in g) t (found x n)) stood.most (stood.fronts t x low high may))
+
+-- ---- the whole
+
+module _ {D : Type 0} (b : Ghosts D) (g : GroundValue D) (clients : AreClients g.sessions) where
+  by_fault : (opening : State) (fault : Option Fault) → g.fault ≡ fault → StandsOr b opening (first_in g) g.common g.sessions fault → IsPromised b opening g
+  by_fault opening None none a = record {
+    standing = a.scene.standing;
+    legal = a.stands.stands.reaches;
+    stands = subst (StandsNow b g a.scene.standing) (sym none) (standing_is b g clients opening a);
+    recovered = recovered_is b g clients opening a;
+  }
+  by_fault opening (Some (Drive half)) is h = record {
+    standing = h.standing;
+    legal = h.reaches;
+    stands = subst (StandsNow b g h.standing) (sym is) (record {
+      half = half;
+      failed = refl;
+      doubt = h.doubt;
+      state = h.state;
+      found_now = h.found;
+      after = h.after;
+    });
+    recovered = h.recovered;
+  }
+  by_fault opening (Some (Bad block why)) is h = absurd h
+
+pub promised : {D : Type 0} (b : Ghosts D) (was g : GroundValue D) → was ≡ g → IsGround b was → (opening : State) → IsRunOf b g opening → IsPromised b opening g
+promised b was g same ground opening is =
+    let here : IsGround b g = subst (IsGround b) same ground in
+    let h : HasRun b g = here.told is.tells is.opened in
+    let state : h.opening ≡ opening = (let one = h.found in let two = is.found in cc (one, two)) in
+    subst (λ o. IsPromised b o g) state (by_fault b g here.safe.clients h.opening g.fault refl h.stands)
