@@ -13,7 +13,7 @@ use Rattle.store_model.specs.Found.{LaidStore, file_in, state_in, version_in}
 use Rattle.store_model.specs.Laid.{LaidFile, LaidVersion, last_laid}
 use Rattle.tree_model.specs.States.{State, Version, last_of}
 use Rattle.session.specs.Names.{HasNoHead}
-use Rattle.session.specs.Opening.{TellsSerials}
+use Rattle.session.specs.Opening.{TellsSerials, told_of}
 use Rattle.ground.specs.Grounds.{AllStand, HasRun, IsGround, StandsOr}
 use Rattle.ground.specs.Promises.{first_of, kept_in, kept_of}
 use Rattle.ground.specs.Runs.{GroundValue, entries_in, first_in, scripts_in}
@@ -39,6 +39,11 @@ file_keeps file = ap (option_map (λ (v : Version). (first_of (map version_in fi
         ≡ option_map serials (option_map (λ (v : LaidVersion). (let h : Head = record { block = v.block; first = first_serial file.versions; serial = v.serial; kept = kept_by file.versions } in h)) last)
     by None = refl
     by (Some v) = ap (λ n. Some (n, v.serial)) (first_is file.versions)
+
+-- what is told of all files is what they keep
+pub told_kept : (files : List LaidFile) → told_of (heads_of files) ≡ map kept_of (map file_in files)
+told_kept [] = refl
+told_kept (file ∷ files) = ap (λ (o : Option (ℕ × ℕ)). o ∷ told_of (heads_of files)) (sym (file_keeps file)) ∙ ap (λ os. kept_of (file_in file) ∷ os) (told_kept files)
 
 -- ---- an object
 

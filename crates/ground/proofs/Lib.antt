@@ -1,6 +1,9 @@
 pub mod Clients
+pub mod Unmoved
+pub mod Halts
+pub mod Timely
 pub mod Turns
 pub mod Newcomers
-pub mod Promised
 pub mod KeptTold
+pub mod Promised
 pub mod Answered

@@ -81,22 +81,24 @@ module _ {D : Type 0} (size : D → ℕ) (c : Common D) (sessions : List Session
   in_order some = record { some = some; most = few; numbers = λ i s at. (new.fresh i s at).number }
 
   -- no client may note more than four entries a line
-  room_enough : (room : ℕ) → entries_of c ≡ [] → room_for (scripts_of sessions) ≤ room → room ≤ room_of c → length (entries_of c) + left_of sessions ≤ room_of c
-  room_enough room empty wide made =
-      let all = sum_by-le-sum_by (λ (s : Session). entries_left s.script s.course) (λ (s : Session). 4 * length s.script.lines) sessions (λ s. most s) in
+  left_enough : (most : ℕ) → entries_of c ≡ [] → room_for (scripts_of sessions) ≤ most → length (entries_of c) + left_of sessions ≤ most
+  left_enough most empty wide =
+      let all = sum_by-le-sum_by (λ (s : Session). entries_left s.script s.course) (λ (s : Session). 4 * length s.script.lines) sessions (λ s. four s) in
       let lines = same_room sessions in
       let nothing = ap length empty in
-      omega (arith, all, lines, nothing, wide, made)
+      omega (arith, all, lines, nothing, wide)
     where
-      most : (s : Session) → entries_left s.script s.course ≤ 4 * length s.script.lines
-      most s = omega arith
+      four : (s : Session) → entries_left s.script s.course ≤ 4 * length s.script.lines
+      four s = omega arith
 
-  safe_run : (room : ℕ) → 1 ≤ length sessions → IsSafeStore size c → entries_of c ≡ [] → room_for (scripts_of sessions) ≤ room → room ≤ room_of c → IsSafeRun size c sessions
-  safe_run room some store empty wide made = record {
+  safe_run : (room : ℕ) → 1 ≤ length sessions → IsSafeStore size c → entries_of c ≡ [] → room_for (scripts_of sessions) ≤ room → room_for (scripts_of sessions) ≤ 64000
+      → room ≤ room_of c → IsSafeRun size c sessions
+  safe_run room some store empty wide few_lines made = record {
     store = store;
     clients = in_order some;
     safe = is_safe;
-    room = room_enough room empty wide made;
+    room = left_enough (room_of c) empty (omega (arith, wide, made));
+    few = left_enough 64000 empty few_lines;
   }
 
 -- ---- the run
@@ -116,13 +118,13 @@ module _ {D : Type 0} (b : Ghosts D) (o : OpenedOver D) (c : Common D) (sessions
       }
 
   pub begins_ground : (seen : OpenedOver D) (room : ℕ) → seen ≡ o → AreSayable (scripts_of sessions) → 1 ≤ length sessions → length sessions ≤ 16
-      → IsSafeStore b.size c → ((k : ℕ) → 1 ≤ k → k ≤ 16 → held_count k c.map ≡ 0) → room_for (scripts_of sessions) ≤ room → room ≤ room_of c
+      → IsSafeStore b.size c → ((k : ℕ) → 1 ≤ k → k ≤ 16 → held_count k c.map ≡ 0) → room_for (scripts_of sessions) ≤ room → room_for (scripts_of sessions) ≤ 64000 → room ≤ room_of c
       → IsGround b (record { opened = seen; common = c; sessions = sessions; fault = None })
-  begins_ground seen room same sayable some few store none wide made =
+  begins_ground seen room same sayable some few store none wide few_lines made =
       let F : OpenedOver D → Type 0 = λ x. IsGround b (record { opened = x; common = c; sessions = sessions; fault = None }) in
       subst F (sym same) (record {
         size = ap b.size over.store;
-        safe = safe_run b.size c sessions new few none room some store over.entries wide made;
+        safe = safe_run b.size c sessions new few none room some store over.entries wide few_lines made;
         told = λ tells is. begins_here sayable is;
       })
 

@@ -1,37 +1,25 @@
 -- What a run promises, from what its type keeps.
-use Rattle.std.proofs.Common.{◌≡◌, inl, ℕ, zero, suc, ◌-◌, ◌<◌, ◌≤◌, List, [], ◌∷◌, length, Option, Some, None, Result, Ok, refl, sym, ap, ◌∙◌, subst, arith}
+use Rattle.std.proofs.Common.{◌≡◌, inl, ℕ, zero, suc, ◌-◌, ◌<◌, ◌≤◌, List, [], ◌∷◌, length, map, Option, Some, None, Result, Ok, refl, sym, ap, ◌∙◌, subst, arith}
 use Rattle.std.specs.Prelude.{slice_get}
 use Rattle.std.specs.Option.{option_map_or}
 use Rattle.pair_store.specs.declared.store.Blocks.{Ghosts}
-use Rattle.service_model.specs.Standing.{client_of}
+use Rattle.service_model.specs.Standing.{Standing, client_of}
 use Rattle.store_changes.specs.Writes.{Content}
 use Rattle.store_model.specs.Found.{LaidStore, found, laid, state_of}
 use Rattle.store_model.specs.Walk.{Refused}
 use Rattle.tree_model.specs.States.{State}
 use Rattle.ground_model.specs.Fronts.{AllRecovered, IsFront}
 use Rattle.ground_model.specs.Runs.{Stands, images_of}
-use Rattle.ground_model.specs.Scenes.{Scene}
-use Rattle.ground_model.specs.Scenes.{Scene}
-use Rattle.script_text.specs.ScriptValue.{ScriptValue}
-use Rattle.service_model.specs.Standing.{Scripts}
-use Rattle.session.specs.Own.{IsSeated, OwnsStage}
-use Rattle.session.specs.declared.course.Course.{Course}
-use Rattle.session.specs.declared.stage.Stage.{Stage}
-use Rattle.session.specs.declared.stage.Stage.TheVariants.{Resting, Naming, Walking, Writing}
 use Rattle.session.specs.declared.session.Session.{Session}
 use Rattle.session.specs.declared.turned.Fault.{Fault}
 use Rattle.session.specs.declared.turned.Fault.TheVariants.{Drive, Bad}
+use Rattle.session.specs.Opening.{told_of}
+use Rattle.session.proofs.Frames.{seat_of}
 use Rattle.ground.specs.Grounds.{AllStand, AreClients, HasRun, IsGround, StandsOr}
-use Rattle.ground.specs.Promises.{AreMade, IsPromised, IsStanding, StandsNow}
+use Rattle.ground.specs.Promises.{AreMade, IsPromised, IsStanding, StandsNow, kept_of}
+use Rattle.ground.proofs.KeptTold.{told_kept}
 use Rattle.ground.specs.Runs.{GroundValue, entries_in, first_in, journal_in, scripts_in, store_in}
 use Rattle.ground.specs.Turning.{IsRunOf, replies_of}
-
--- at each stage a client is one of the run
-seat_of : (scripts : Scripts) (scene : Scene) (script : ScriptValue) (s : Course) (stage : Stage) → OwnsStage scripts scene script s stage → IsSeated scripts scene script s
-seat_of scripts scene script s Resting h = h.seated
-seat_of scripts scene script s (Naming next) h = h.merged.committing.seated
-seat_of scripts scene script s (Walking walk) h = h.committing.seated
-seat_of scripts scene script s (Writing flush) h = h.merged.committing.seated
 
 same_store : (o : Result (LaidStore × List ℕ) Refused) (s r : LaidStore) (p q : List ℕ) → o ≡ Ok (s, p) → o ≡ Ok (r, q) → s ≡ r
 same_store o s r p q one two = (let same : (s, p) ≡ (r, q) = cc in ap (λ (x : LaidStore × List ℕ). x.0) same)
@@ -40,6 +28,16 @@ past_end : {X : Type 0} (xs : List X) (i : ℕ) → slice_get xs i ≡ None → 
 past_end [] i e = omega arith
 past_end (x ∷ xs) zero e = absurd cc
 past_end (x ∷ xs) (suc i) e = (let rest = past_end xs i e in omega (arith, rest))
+
+-- the answers of each client
+answers_at : {D : Type 0} (b : Ghosts D) (g : GroundValue D) → AreClients g.sessions → (standing : Standing)
+    → ((i : ℕ) (s : Session) → slice_get g.sessions i ≡ Some s → (client_of standing (suc i)).answers ≡ s.course.replies.items)
+    → (k : ℕ) → 1 ≤ k → k ≤ length g.sessions → replies_of g k ≡ (client_of standing k).answers
+answers_at b g clients standing each k low high = by (slice_get g.sessions (k - 1)) refl
+  where
+    by : (o : Option Session) → slice_get g.sessions (k - 1) ≡ o → option_map_or (λ (s : Session). s.course.replies.items) o [] ≡ (client_of standing k).answers
+    by None none = absurd (let past = past_end g.sessions (k - 1) none in omega (arith, past, low, high))
+    by (Some s) at = sym (each (k - 1) s at) ∙ ap (λ n. (client_of standing n).answers) {x = suc (k - 1)} {y = k} (omega (arith, low))
 
 -- ---- a run that stands
 
@@ -61,22 +59,17 @@ module _ {D : Type 0} (b : Ghosts D) (g : GroundValue D) (clients : AreClients g
       subst (λ s. AreMade s a.scene.standing.made) same stood.shared.made
 
   answered : (k : ℕ) → 1 ≤ k → k ≤ length g.sessions → replies_of g k ≡ (client_of a.scene.standing k).answers
-  answered k low high = by (slice_get g.sessions (k - 1)) refl
-    where
-      by : (o : Option Session) → slice_get g.sessions (k - 1) ≡ o → option_map_or (λ (s : Session). s.course.replies.items) o [] ≡ (client_of a.scene.standing k).answers
-      by None none = absurd (let past = past_end g.sessions (k - 1) none in omega (arith, past, low, high))
-      by (Some s) at =
-          let seat = seat_of (scripts_in g) a.scene s.script s.course s.course.stage (a.own (k - 1) s at) in
-          let number : s.course.client ≡ k = (let n = clients.numbers (k - 1) s at in omega (arith, n, low)) in
-          sym seat.answers ∙ ap (λ n. (client_of a.scene.standing n).answers) number
+  answered = answers_at b g clients a.scene.standing (λ i s at.
+      (let seat = seat_of (scripts_in g) a.scene s.script s.course s.course.stage (a.own i s at) in
+      ap (λ n. (client_of a.scene.standing n).answers) (sym (clients.numbers i s at)) ∙ seat.answers))
 
   standing_is : IsStanding b g a.scene.standing
   standing_is = record {
     doubt = a.stands.sure;
     state = ap state_of laid_now ∙ ap (λ s. Ok s) stood.shared.state;
     settled = λ n low. stood.settled n (subst (λ m. n < m) (sym blocks_are) low);
+    told = ap told_of a.stands.heads ∙ told_kept a.scene.store.files ∙ ap (λ (s : State). map kept_of s.files) stood.shared.state;
     made = made_here;
-    answers = answered;
   }
 
   recovered_is : AllRecovered (images_of b (b.size (store_in g))) opening (scripts_in g) (first_in g) (store_in g) (journal_in g)
@@ -89,21 +82,23 @@ module _ {D : Type 0} (b : Ghosts D) (g : GroundValue D) (clients : AreClients g
   by_fault opening None none a = record {
     standing = a.scene.standing;
     legal = a.stands.stands.reaches;
+    answers = answered b g clients opening a;
     stands = subst (StandsNow b g a.scene.standing) (sym none) (standing_is b g clients opening a);
     recovered = recovered_is b g clients opening a;
   }
   by_fault opening (Some (Drive half)) is h = record {
-    standing = h.standing;
-    legal = h.reaches;
-    stands = subst (StandsNow b g h.standing) (sym is) (record {
+    standing = h.stopped.standing;
+    legal = h.stopped.reaches;
+    answers = answers_at b g clients h.stopped.standing h.answers;
+    stands = subst (StandsNow b g h.stopped.standing) (sym is) (record {
       half = half;
       failed = refl;
-      doubt = h.doubt;
-      state = h.state;
-      found_now = h.found;
-      after = h.after;
+      doubt = h.stopped.doubt;
+      state = h.stopped.state;
+      found_now = h.stopped.found;
+      after = h.stopped.after;
     });
-    recovered = h.recovered;
+    recovered = h.stopped.recovered;
   }
   by_fault opening (Some (Bad block why)) is h = absurd h
 

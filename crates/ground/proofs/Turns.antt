@@ -10,16 +10,15 @@ use Rattle.script_text.specs.declared.reply.LineReply.{LineReply}
 use Rattle.service_model.specs.declared.journal.Entry.{Entry}
 use Rattle.service_model.specs.Entries.{standing_after}
 use Rattle.service_model.specs.Legal.{IsLegalFrom}
-use Rattle.service_model.specs.Standing.{Scripts, Standing, lines_of, start}
-use Rattle.service_model.proofs.Journals.{legal_rest}
+use Rattle.service_model.specs.Standing.{Scripts, lines_of, start}
 use Rattle.service_model.proofs.Members.{set_elsewhere, set_here}
 use Rattle.tree_model.specs.States.{State}
-use Rattle.session.specs.Calls.{AnswersLine, IsCounted, IsLost, TurnCall}
-use Rattle.session.specs.Ends.{AreOf, StopsBy, TurnEnds, TurnGoes}
+use Rattle.session.specs.Calls.{AnswersLine, CountsTurn, IsCounted, IsLost, KeepsRest, TurnCall}
+use Rattle.session.specs.Ends.{StopsWith, TurnEnds, TurnGoes}
 use Rattle.session.specs.Own.{IsOwn}
 use Rattle.session.specs.Safe.{IsSafe, entries_left}
 use Rattle.session.specs.Shared.{RunStands, entries_of}
-use Rattle.session.specs.Values.{RepliesValue}
+use Rattle.session.specs.Values.{RepliesValue, one_more}
 use Rattle.session.proofs.Frames.{own_is_left, safe_is_left}
 use Rattle.session.specs.declared.common.Common.{Common}
 use Rattle.session.specs.declared.session.Session.{Session}
@@ -27,9 +26,11 @@ use Rattle.session.specs.declared.turned.Fault.{Fault}
 use Rattle.session.specs.declared.turned.Fault.TheVariants.{Drive, Bad}
 use Rattle.session.specs.declared.turned.Turned.{Turned}
 use Rattle.session.specs.declared.turned.Turned.TheVariants as turned
-use Rattle.ground.specs.Grounds.{AllStand, AreClients, HasRun, IsGround, IsSafeRun, StandsOr}
+use Rattle.ground.specs.Grounds.{AllStand, AreClients, HasHalted, HasRun, IsGround, IsSafeRun, StandsOr}
 use Rattle.ground.specs.Runs.{GroundValue, scripts_of, store_in}
-use Rattle.ground.specs.Turning.{AnswersTurn, AreLater, HasNoted, IsAnswering, IsRunOf, IsSameRun, IsStoppedBy, IsThrough, NotesTurn, OthersStay, fault_of, replies_of}
+use Rattle.ground.specs.Turning.{AnswersTurn, AreLater, CountsTurns, HasNoted, IsAnswering, IsNeverBad, IsRunOf, IsSameRun, IsStoppedBy, IsThrough, IsTimely, IsWhole, OthersStay, fault_of, replies_of, turns_of}
+use Rattle.ground.proofs.Timely.{between_here, timely_here}
+use Rattle.ground.proofs.Halts.{entries_noted, halts, nothing_noted, unmoved_moments}
 use Rattle.ground.proofs.Clients.{clients_set, get_set, left_set, lines_at, scripts_set, set_same}
 
 module _ {D : Type 0} (b : Ghosts D) (opened : OpenedOver D) (c c' : Common D) (sessions : List Session) (i : ℕ) (s s' : Session) (result : Turned)
@@ -68,6 +69,8 @@ module _ {D : Type 0} (b : Ghosts D) (opened : OpenedOver D) (c c' : Common D) (
     safe = safe_each h.clients h.safe;
     room = (let left = left_set sessions i s s' at in let room = h.room in let took = call.entries in let same = call.numbers.room in
         let mine = ap (λ (x : ScriptValue). entries_left x s'.course) script in omega (arith, left, room, took, same, mine));
+    few = (let left = left_set sessions i s s' at in let few = h.few in let took = call.entries in
+        let mine = ap (λ (x : ScriptValue). entries_left x s'.course) script in omega (arith, left, few, took, mine));
   }
 
   -- ---- where contents are told
@@ -87,15 +90,17 @@ module _ {D : Type 0} (b : Ghosts D) (opened : OpenedOver D) (c c' : Common D) (
           ]);
         }
 
-    ends : (r : Turned) → (r ≡ turned.Finished → (s' ≡ s) × (c' ≡ c)) → TurnEnds b opening (scripts_of sessions) first a.scene c c' s.script s.course s'.course r
+    ends : (r : Turned) → (r ≡ turned.Finished → (s' ≡ s) × (c' ≡ c)) → AnswersLine s.script s.course s'.course r → TurnEnds b opening (scripts_of sessions) first a.scene c c' s.script s.course s'.course r
         → StandsOr b opening first c' (slice_set sessions i s') (fault_of r)
-    ends (turned.Line n) same g = goes g
-    ends turned.Again same g = goes g
-    ends (turned.Work job) same g = goes g
-    ends turned.Finished same g =
+    ends (turned.Line n) same h g = goes g
+    ends turned.Again same h g = goes g
+    ends (turned.Work job) same h g = goes g
+    ends turned.Finished same h g =
         let F : Common D → Type 0 = λ x. AllStand b opening first x sessions in
         subst (AllStand b opening first c') (sym (ap (slice_set sessions i) (same refl).0 ∙ set_same sessions i s at)) (subst F (sym g.0) a)
-    ends (turned.Stopped fault) same g = subst (λ scripts. StopsBy b opening scripts first c' fault) (sym scripts_stay) g
+    ends (turned.Stopped (Drive half)) same h g =
+        subst (λ scripts. HasHalted b opening scripts first c' (slice_set sessions i s')) (sym scripts_stay) (halts b opening first c c' sessions clients a s'.course.client g i s s' at h)
+    ends (turned.Stopped (Bad block why)) same h g = g
 
   -- ---- the whole
 
@@ -106,7 +111,7 @@ module _ {D : Type 0} (b : Ghosts D) (opened : OpenedOver D) (c c' : Common D) (
   keeps_run tells clients h = record {
     opening = h.opening;
     found = h.found;
-    stands = ends h.opening opened.since clients h.stands result still (turned_in tells h);
+    stands = ends h.opening opened.since clients h.stands result still call.lines (turned_in tells h);
   }
 
   pub keeps : IsGround b before → IsGround b after
@@ -161,6 +166,42 @@ module _ {D : Type 0} (b : Ghosts D) (opened : OpenedOver D) (c c' : Common D) (
     pub answers : AnswersTurn before after k result
     answers = answers_by result refl call.lines
 
+    turns_was : turns_of before k ≡ s.course.turns
+    turns_was = ap (λ n. option_map_or (λ (t : Session). t.course.turns) (slice_get sessions n) 0) (sym place) ∙ ap (λ o. option_map_or (λ (t : Session). t.course.turns) o 0) at
+
+    turns_is : turns_of after k ≡ s'.course.turns
+    turns_is = ap (λ n. option_map_or (λ (t : Session). t.course.turns) (slice_get (slice_set sessions i s') n) 0) (sym place)
+        ∙ ap (λ o. option_map_or (λ (t : Session). t.course.turns) o 0) (set_here sessions i s s' at)
+
+    counts_by : (r : Turned) → CountsTurn s.course s'.course r → CountsTurns before after k r
+    counts_by (turned.Line n) h = turns_is ∙ h.0
+    counts_by turned.Again h = turns_is ∙ h ∙ ap one_more (sym turns_was)
+    counts_by (turned.Work job) h = turns_is ∙ h ∙ ap one_more (sym turns_was)
+    counts_by turned.Finished h = turns_is ∙ h ∙ sym turns_was
+    counts_by (turned.Stopped fault) h = tt
+
+    pub counts : CountsTurns before after k result
+    counts = counts_by result call.counts
+
+    my_place : slice_get (slice_set sessions i s') (k - 1) ≡ Some s'
+    my_place = ap (slice_get (slice_set sessions i s')) (sym place) ∙ set_here sessions i s s' at
+
+    run_of : (o : State) → IsRunOf b before o → IsRunOf b after o
+    run_of o is = record { tells = is.tells; opened = is.opened; found = is.found }
+
+    pub timely : IsGround b after → (o : State) → IsRunOf b before o → after.fault ≡ None → IsTimely o after k
+    timely ground o is none = timely_here b after ground o (run_of o is) none k number s' my_place
+
+    whole_by : IsGround b after → (o : State) → IsRunOf b before o → (r : Turned) → r ≡ result → CountsTurn s.course s'.course r → IsWhole o after k r
+    whole_by ground o is (turned.Line n) same h = between_here b after ground o (run_of o is) (ap fault_of (sym same)) k number s' my_place h.1
+    whole_by ground o is turned.Again same h = tt
+    whole_by ground o is (turned.Work job) same h = tt
+    whole_by ground o is turned.Finished same h = tt
+    whole_by ground o is (turned.Stopped fault) same h = tt
+
+    pub whole : IsGround b after → (o : State) → IsRunOf b before o → IsWhole o after k result
+    whole ground o is = whole_by ground o is result refl call.counts
+
     pub others : OthersStay before after k
     others j low ne = set_elsewhere sessions i (j - 1) s' (λ same. ne (omega (arith, same, place, number, low)))
 
@@ -185,31 +226,31 @@ module _ {D : Type 0} (b : Ghosts D) (opened : OpenedOver D) (c c' : Common D) (
       stood : h.stands.scene.standing ≡ standing_after o (scripts_of sessions) (entries_of c)
       stood = sym h.stands.stands.stands.reaches.leads ∙ ap (λ (x : State). standing_after x (scripts_of sessions) (entries_of c)) same
 
-      noted : TurnGoes b h.opening (scripts_of sessions) opened.since h.stands.scene c c' s.script s'.course → (es : List Entry) × HasNoted b o before after k es
+      mine : s'.course.client ≡ k
+      mine = (let n = clients.numbers i s at in call.client ∙ omega (arith, n, place, number))
+
+      abbrev legal : List Entry → State → Type 0
+      legal es x = IsLegalFrom (scripts_of sessions) (start x (scripts_of sessions)) es
+
+      noted : TurnGoes b h.opening (scripts_of sessions) opened.since h.stands.scene c c' s.script s'.course → HasNoted b o before after k
       noted g =
-          let F : Standing → ℕ → Type 0 = λ st n. AreOf (scripts_of sessions) st n g.es in
-          let legal : IsLegalFrom (scripts_of sessions) (start o (scripts_of sessions)) (entries_of c ++ g.es) =
-          subst (λ (x : State). IsLegalFrom (scripts_of sessions) (start x (scripts_of sessions)) (entries_of c ++ g.es)) same
-          (subst (IsLegalFrom (scripts_of sessions) (start h.opening (scripts_of sessions))) g.goes.entries g.goes.stands.stands.reaches.legal) in
-          let mine : s'.course.client ≡ k = (let n = clients.numbers i s at in call.client ∙ omega (arith, n, place, number)) in (
-            g.es,
-            record {
-              entries = g.goes.entries;
-              of_client = subst (F (standing_after o (scripts_of sessions) (entries_of c))) mine (subst (λ st. F st s'.course.client) stood g.goes.of_client);
-              legal = legal_rest (scripts_of sessions) (start o (scripts_of sessions)) (entries_of c) g.es legal;
-              moments = g.moments;
-            },
-          )
+          entries_noted b o before after k s'.course.client h.stands.scene.standing g.es stood mine g.goes.entries g.goes.of_client
+          (subst (legal (entries_of c')) same g.goes.stands.stands.reaches.legal) g.moments
 
-      notes_by : (r : Turned) → TurnEnds b h.opening (scripts_of sessions) opened.since h.stands.scene c c' s.script s.course s'.course r → NotesTurn b o before after k r
-      notes_by (turned.Line n) g = noted g
-      notes_by turned.Again g = noted g
-      notes_by (turned.Work job) g = noted g
-      notes_by turned.Finished g = tt
-      notes_by (turned.Stopped (Drive half)) g = tt
-      notes_by (turned.Stopped (Bad block why)) g = g
+      halted : StopsWith b h.opening (scripts_of sessions) opened.since h.stands.scene c c' s'.course.client → HasNoted b o before after k
+      halted g =
+          entries_noted b o before after k s'.course.client h.stands.scene.standing g.es stood mine g.entries g.of_client
+          (subst (legal (entries_of c')) same g.stopped.reaches.legal) (unmoved_moments (b.moment c'.store) g.es g.unmoved)
 
-    pub notes : AreClients sessions → (b.tells → IsOpening b opened → HasRun b before) → (opening : State) → IsRunOf b before opening → NotesTurn b opening before after k result
+      notes_by : (r : Turned) → TurnEnds b h.opening (scripts_of sessions) opened.since h.stands.scene c c' s.script s.course s'.course r → HasNoted b o before after k × IsNeverBad r
+      notes_by (turned.Line n) g = (noted g, λ block why is. absurd cc)
+      notes_by turned.Again g = (noted g, λ block why is. absurd cc)
+      notes_by (turned.Work job) g = (noted g, λ block why is. absurd cc)
+      notes_by turned.Finished g = (nothing_noted b o before after k (ap entries_of g.0), λ block why is. absurd cc)
+      notes_by (turned.Stopped (Drive half)) g = (halted g, λ block why is. absurd cc)
+      notes_by (turned.Stopped (Bad block why)) g = absurd g
+
+    pub notes : AreClients sessions → (b.tells → IsOpening b opened → HasRun b before) → (opening : State) → IsRunOf b before opening → HasNoted b opening before after k × IsNeverBad result
     notes clients has o is =
         let h : HasRun b before = has is.tells is.opened in
         let same : h.opening ≡ o = (let one = h.found in let two = is.found in cc (one, two)) in
@@ -224,12 +265,17 @@ pub record Came {D : Type 0} (b : Ghosts D) (g g' : GroundValue D) (k : ℕ) (re
   pub stays : (fault : Fault) → g.fault ≡ Some fault → (result ≡ turned.Stopped fault) × (g' ≡ g)
   pub fault : g'.fault ≡ fault_of result
   pub answers : AnswersTurn g g' k result
+  pub turns : CountsTurns g g' k result
+  pub rest : KeepsRest b (store_in g) (store_in g') result
+  pub timely : (opening : State) → IsRunOf b g opening → g'.fault ≡ None → IsTimely opening g' k
+  pub whole : (opening : State) → IsRunOf b g opening → IsWhole opening g' k result
   pub others : OthersStay g g' k
   pub finished : IsThrough g k → g.fault ≡ None → result ≡ turned.Finished
   pub counted : IsCounted (b.count (store_in g)) (b.count (store_in g')) result
   pub later : AreLater b g g'
   pub stopped : IsStoppedBy b g g' result
-  pub notes : (opening : State) → IsRunOf b g opening → NotesTurn b opening g g' k result
+  pub notes : (opening : State) → IsRunOf b g opening → HasNoted b opening g g' k
+  pub good : (opening : State) → IsRunOf b g opening → IsNeverBad result
 
 module _ {D : Type 0} (b : Ghosts D) (opened : OpenedOver D) (c c' : Common D) (sessions : List Session) (s s' : Session) (k i : ℕ) (result : Turned)
     (fault : Option Fault) (g : GroundValue D) where
@@ -261,6 +307,9 @@ module _ {D : Type 0} (b : Ghosts D) (opened : OpenedOver D) (c c' : Common D) (
       ground : IsGround b (was None)
       ground = subst (λ x. IsGround b (was x)) t.none t.sound
 
+      noted_here : (o : State) → IsRunOf b (was None) o → HasNoted b o (was None) (becomes (fault_of result)) k × IsNeverBad result
+      noted_here = notes b opened c c' sessions i s s' result t.at t.script t.call t.still k t.place t.number ground.safe.clients ground.told
+
       here : Came b (was None) (becomes (fault_of result)) k result
       here = record {
         keeps = keeps b opened c c' sessions i s s' result t.at t.script t.call t.still ground;
@@ -268,10 +317,15 @@ module _ {D : Type 0} (b : Ghosts D) (opened : OpenedOver D) (c c' : Common D) (
         stays = λ x some. absurd cc;
         fault = refl;
         answers = answers b opened c c' sessions i s s' result t.at t.script t.call t.still k t.place t.number;
+        turns = counts b opened c c' sessions i s s' result t.at t.script t.call t.still k t.place t.number;
+        rest = t.call.rest;
+        timely = timely b opened c c' sessions i s s' result t.at t.script t.call t.still k t.place t.number (keeps b opened c c' sessions i s s' result t.at t.script t.call t.still ground);
+        whole = whole b opened c c' sessions i s s' result t.at t.script t.call t.still k t.place t.number (keeps b opened c c' sessions i s s' result t.at t.script t.call t.still ground);
         others = others b opened c c' sessions i s s' result t.at t.script t.call t.still k t.place t.number;
         finished = λ through none. finished b opened c c' sessions i s s' result t.at t.script t.call t.still k t.place t.number t.finished through;
         counted = t.call.counted;
         later = record { faults = t.call.numbers.faults; last = t.call.numbers.last };
         stopped = stopped b opened c c' sessions i s s' result t.at t.script t.call t.still k t.place t.number ground.told;
-        notes = notes b opened c c' sessions i s s' result t.at t.script t.call t.still k t.place t.number ground.safe.clients ground.told;
+        notes = λ o is. (noted_here o is).0;
+        good = λ o is. (noted_here o is).1;
       }

@@ -2,16 +2,18 @@
 use Rattle.std.specs.Prelude.{◌≡◌, ℕ, suc, ◌+◌, ◌≤◌, List, length, sum_by, Option, None, Some, Ok, slice_get}
 use Rattle.pair_store.specs.declared.store.Blocks.{Ghosts}
 use Rattle.recovery.specs.Opening.{IsOpening}
+use Rattle.service_model.specs.Standing.{Scripts, client_of}
 use Rattle.store_model.specs.Found.{found}
 use Rattle.tree_model.specs.States.{State}
 use Rattle.ground_model.specs.Scenes.{Scene}
-use Rattle.session.specs.Ends.{StopsBy}
+use Rattle.ground_model.specs.Stops.{HasStopped}
 use Rattle.session.specs.Own.{IsOwn}
 use Rattle.session.specs.Safe.{IsSafe, IsSafeStore, entries_left}
 use Rattle.session.specs.Shared.{RunStands, entries_of, room_of}
 use Rattle.session.specs.declared.common.Common.{Common}
 use Rattle.session.specs.declared.session.Session.{Session}
 use Rattle.session.specs.declared.turned.Fault.{Fault}
+use Rattle.session.specs.declared.turned.Fault.TheVariants.{Drive, Bad}
 use Rattle.ground.specs.Runs.{GroundValue, scripts_of}
 
 -- ---- numbers
@@ -26,14 +28,17 @@ pub record AreClients (sessions : List Session) : Type 0 where
   pub most : length sessions ≤ 16
   pub numbers : (i : ℕ) (s : Session) → slice_get sessions i ≡ Some s → s.course.client ≡ suc i
 
--- Whether or not contents are told: the numbers of what the clients share and of each client fit the
--- store, and there is room for the entries that the clients may still note.
-pub record IsSafeRun {D : Type 0} (size : D → ℕ) (c : Common D) (sessions : List Session) : Type 0 where
+-- Whether or not contents are told: the numbers of what the clients share and of each client fit
+-- the store, there is room for the entries that the clients may still note, and they are few: four
+-- for each of sixteen thousand lines.
+pub record IsSafeRun {D : Type 0} (size : D → ℕ) (c : Common D)
+    (sessions : List Session) : Type 0 where
   pub store : IsSafeStore size c
   pub clients : AreClients sessions
   pub safe : (i : ℕ) (s : Session) → slice_get sessions i ≡ Some s
       → IsSafe (size c.store) c.map s.script s.course
   pub room : length (entries_of c) + left_of sessions ≤ room_of c
+  pub few : length (entries_of c) + left_of sessions ≤ 64000
 
 -- ---- where contents are told
 
@@ -45,12 +50,22 @@ pub record AllStand {D : Type 0} (b : Ghosts D) (opening : State) (first : ℕ) 
   pub own : (i : ℕ) (s : Session) → slice_get sessions i ≡ Some s
       → IsOwn (scripts_of sessions) scene s.script s.course
 
--- So it does, or a fault stopped it.
+-- A half failed, and stopped the run: kept is what a crash may leave, and the answers of the
+-- clients are those to which the journal leads.
+pub record HasHalted {D : Type 0} (b : Ghosts D) (opening : State) (scripts : Scripts) (first : ℕ)
+    (c : Common D) (sessions : List Session) : Type 0 where
+  pub stopped : HasStopped b opening scripts first c.store c.log.journal
+  pub answers : (i : ℕ) (s : Session) → slice_get sessions i ≡ Some s
+      → (client_of stopped.standing (suc i)).answers ≡ s.course.replies.items
+
+-- The run stands, or a half stopped it. A block that does not hold what its place says was never
+-- met.
 abbrev pub StandsOr : {D : Type 0} → Ghosts D → State → ℕ → Common D → List Session → Option Fault
     → Type 0
 StandsOr b opening first c sessions None = AllStand b opening first c sessions
-StandsOr b opening first c sessions (Some fault) =
-    StopsBy b opening (scripts_of sessions) first c fault
+StandsOr b opening first c sessions (Some (Drive half)) =
+    HasHalted b opening (scripts_of sessions) first c sessions
+StandsOr b opening first c sessions (Some (Bad block why)) = ⊥
 
 -- The run began over the state that was found as its store was opened, and it stands, or a fault
 -- stopped it.

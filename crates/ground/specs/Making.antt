@@ -25,7 +25,8 @@ abbrev pub room_for : Scripts → ℕ
 room_for scripts = sum_by (λ (script : ScriptValue). 4 * length script.lines) scripts
 
 -- The run of these scripts over a store that was opened has made no turn.
-pub record HasBegun {D : Type 0} (o : OpenedOver D) (scripts : Scripts) (g : GroundValue D) : Type 0 where
+pub record HasBegun {D : Type 0} (o : OpenedOver D) (scripts : Scripts)
+    (g : GroundValue D) : Type 0 where
   pub opened : g.opened ≡ o
   pub scripts_are : scripts_in g ≡ scripts
   pub store : store_in g ≡ o.store

@@ -4,12 +4,13 @@ use Rattle.recovery.specs.declared.opened.OpenedOver.{OpenedOver}
 use Rattle.service_model.specs.declared.journal.Entry.{Entry}
 use Rattle.service_model.specs.declared.journal.Journal.{Journal}
 use Rattle.service_model.specs.Standing.{Scripts}
+use Rattle.session.specs.Opening.{told_of}
 use Rattle.session.specs.declared.common.Common.{Common}
 use Rattle.session.specs.declared.session.Session.{Session}
 use Rattle.session.specs.declared.turned.Fault.{Fault}
 
--- The store as it was opened, what the clients share, the clients, client 1 first, and the fault that
--- stopped the run.
+-- The store as it was opened, what the clients share, the clients, client 1 first, and the fault
+-- that stopped the run.
 pub record GroundValue (D : Type 0) : Type 0 where
   pub opened : OpenedOver D
   pub common : Common D
@@ -36,6 +37,12 @@ store_in g = g.common.store
 abbrev pub first_in : {D : Type 0} → GroundValue D → ℕ
 first_in g = g.opened.since
 
--- How many pairs of pages the clients merged themselves, a number that stands still at its last value.
+-- The serials of the first and of the last version that is known to be kept of each object, object
+-- 1 first, where it is live.
+abbrev pub told_in : {D : Type 0} → GroundValue D → List (Option (ℕ × ℕ))
+told_in g = told_of g.common.heads.items
+
+-- How many pairs of pages the clients merged themselves, a number that stands still at its last
+-- value.
 abbrev pub own_merges_in : {D : Type 0} → GroundValue D → ℕ
 own_merges_in g = min (sum_by (λ (s : Session). s.course.merges) g.sessions) (2 ^ 64 - 1)

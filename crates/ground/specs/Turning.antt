@@ -1,8 +1,10 @@
 -- What a turn of a run comes to.
-use Rattle.std.specs.Prelude.{◌≡◌, ◌≢◌, ℕ, ◌-◌, ◌≤◌, List, [], ◌∷◌, ◌++◌, length, Option, Some, None, Ok, slice_get}
+use Rattle.std.specs.Prelude.{◌≡◌, ◌≢◌, ℕ, ◌-◌, ◌^◌, ◌<◌, ◌≤◌, List, [], ◌∷◌, ◌++◌, length, Option, Some, None, Ok, slice_get}
 use Rattle.std.specs.Option.{option_map_or}
 use Rattle.drives.specs.declared.device.Half.{Half}
+use Rattle.ground_model.specs.Bounds.{line_bound}
 use Rattle.ground_model.specs.Fronts.{AreOfTurn}
+use Rattle.page_codec.specs.declared.why.Why.{Why}
 use Rattle.pair_store.specs.declared.store.Blocks.{Ghosts}
 use Rattle.recovery.specs.Opening.{IsFailed, IsOpening}
 use Rattle.script_text.specs.declared.reply.LineReply.{LineReply}
@@ -10,9 +12,11 @@ use Rattle.script_text.specs.declared.script.Line.{Line}
 use Rattle.service_model.specs.declared.journal.Entry.{Entry}
 use Rattle.service_model.specs.Entries.{standing_after}
 use Rattle.service_model.specs.Legal.{IsLegalFrom}
-use Rattle.service_model.specs.Standing.{lines_of}
+use Rattle.service_model.specs.Standing.{Standing, lines_of}
+use Rattle.play_order.specs.Orders.{IsBetween}
 use Rattle.session.specs.Ends.{AreOf}
 use Rattle.session.specs.Sessions.{IsReplyTo}
+use Rattle.session.specs.Values.{one_more}
 use Rattle.session.specs.declared.session.Session.{Session}
 use Rattle.session.specs.declared.turned.Fault.{Fault}
 use Rattle.session.specs.declared.turned.Fault.TheVariants.{Drive, Bad}
@@ -74,12 +78,25 @@ AnswersTurn g g' k (turned.Work job) = replies_of g' k ≡ replies_of g k
 AnswersTurn g g' k turned.Finished = IsThrough g k × (g' ≡ g)
 AnswersTurn g g' k (turned.Stopped fault) = replies_of g' k ≡ replies_of g k
 
+-- How many turns of a client's line under way ended with it going on.
+abbrev pub turns_of : {D : Type 0} → GroundValue D → ℕ → ℕ
+turns_of g k = option_map_or (λ (s : Session). s.course.turns) (session_of g k) 0
+
+-- They are counted.
+abbrev pub CountsTurns : {D : Type 0} → GroundValue D → GroundValue D → ℕ → Turned → Type 0
+CountsTurns g g' k (turned.Line n) = turns_of g' k ≡ 0
+CountsTurns g g' k turned.Again = turns_of g' k ≡ one_more (turns_of g k)
+CountsTurns g g' k (turned.Work job) = turns_of g' k ≡ one_more (turns_of g k)
+CountsTurns g g' k turned.Finished = turns_of g' k ≡ turns_of g k
+CountsTurns g g' k (turned.Stopped fault) = Unit {0}
+
 -- The other clients are as they were.
 abbrev pub OthersStay : {D : Type 0} → GroundValue D → GroundValue D → ℕ → Type 0
 OthersStay g g' k = (j : ℕ) → 1 ≤ j → j ≢ k → session_of g' j ≡ session_of g j
 
 -- The line of a client that has this number was answered so.
-pub record IsAnswered {D : Type 0} (g : GroundValue D) (k number : ℕ) (reply : LineReply) : Type 0 where
+pub record IsAnswered {D : Type 0} (g : GroundValue D) (k number : ℕ)
+    (reply : LineReply) : Type 0 where
   pub client : Session
   pub is : session_of g k ≡ Some client
   pub answer : IsReplyTo client.script client.course number reply
@@ -93,26 +110,37 @@ pub record IsRunOf {D : Type 0} (b : Ghosts D) (g : GroundValue D) (opening : St
   pub opened : IsOpening b g.opened
   pub found : found (b.content g.opened.store) (b.size g.opened.store) ≡ Ok opening
 
--- These entries came to the journal: they are of one client, legal and due where the journal stood,
--- and those that change the state carry the moment as the turn returned.
-pub record HasNoted {D : Type 0} (b : Ghosts D) (opening : State) (g g' : GroundValue D) (k : ℕ)
-    (es : List Entry) : Type 0 where
+-- Entries came to the journal: they are of this client, legal and due where the journal stood, and
+-- those that change the state carry the moment as the turn returned.
+pub record HasNoted {D : Type 0} (b : Ghosts D) (opening : State) (g g' : GroundValue D)
+    (k : ℕ) : Type 0 where
+  pub es : List Entry
   pub entries : entries_in g' ≡ entries_in g ++ es
   pub of_client : AreOf (scripts_in g) (standing_after opening (scripts_in g) (entries_in g)) k es
   pub legal : IsLegalFrom (scripts_in g)
       (standing_after opening (scripts_in g) (entries_in g)) es
   pub moments : AreOfTurn (b.moment (store_in g')) es
 
--- So it is after a turn that did not stop the run. A block that does not hold what its place says is
--- never met.
-abbrev pub NotesTurn : {D : Type 0} → Ghosts D → State → GroundValue D → GroundValue D → ℕ → Turned
-    → Type 0
-NotesTurn b opening g g' k (turned.Line n) = (es : List Entry) × HasNoted b opening g g' k es
-NotesTurn b opening g g' k turned.Again = (es : List Entry) × HasNoted b opening g g' k es
-NotesTurn b opening g g' k (turned.Work job) = (es : List Entry) × HasNoted b opening g g' k es
-NotesTurn b opening g g' k turned.Finished = Unit {0}
-NotesTurn b opening g g' k (turned.Stopped (Drive half)) = Unit {0}
-NotesTurn b opening g g' k (turned.Stopped (Bad block why)) = ⊥
+-- What stands now, as the journal says.
+abbrev pub standing_of : {D : Type 0} → State → GroundValue D → Standing
+standing_of opening g = standing_after opening (scripts_in g) (entries_in g)
+
+-- The turns of a client's line are within the line's bound, which is a small number.
+pub record IsTimely {D : Type 0} (opening : State) (g : GroundValue D) (k : ℕ) : Type 0 where
+  pub within : turns_of g k ≤ line_bound (scripts_in g) (standing_of opening g) k
+  pub small : turns_of g k < 2 ^ 48
+
+-- A client whose line was answered is between two lines.
+abbrev pub IsWhole : {D : Type 0} → State → GroundValue D → ℕ → Turned → Type 0
+IsWhole opening g k (turned.Line n) = IsBetween (scripts_in g) (standing_of opening g) k
+IsWhole opening g k turned.Again = Unit {0}
+IsWhole opening g k (turned.Work job) = Unit {0}
+IsWhole opening g k turned.Finished = Unit {0}
+IsWhole opening g k (turned.Stopped fault) = Unit {0}
+
+-- A block that does not hold what its place says is never met.
+abbrev pub IsNeverBad : Turned → Type 0
+IsNeverBad result = (block : ℕ) (why : Why) → result ≡ turned.Stopped (Bad block why) → ⊥
 
 -- ---- faults
 

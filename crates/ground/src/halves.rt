@@ -16,8 +16,8 @@ use std::alloc::Global;
 /// A run of clients over two halves.
 pub type Ground<V> = GroundOver<Pair<V>>;
 
-/// A run of 1 to 16 scripts over two halves that were opened, client 1 playing the first one. Where there is
-/// not enough memory for its turns, the drives come back.
+/// A run of 1 to 16 scripts over two halves that were opened, client 1 playing the first one. Where
+/// there is not enough memory for its turns, the drives come back.
 pub fn on_halves<V: Drives>(
     alloc: Global,
     opened: Opened<V>,

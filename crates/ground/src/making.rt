@@ -34,10 +34,12 @@ pub(crate) fn sessions_of(alloc: Global, scripts: Vec<Script>) -> Result<Vec<Ses
     Ok(sessions)
 }
 
-/// How many entries the clients of these scripts may note: four for each line.
+/// How many entries the clients of these scripts may note: four for each line, of which a script
+/// has at most a thousand.
 pub(crate) fn room_for(scripts: &[Script]) -> usize
     requires { length scripts.now ≤ 16 }
-    ensures { result ≡ room_for scripts.now }
+    ensures room { result ≡ room_for scripts.now }
+    ensures most { result ≤ 64000 }
 {
     let mut room = 0;
     for script in scripts {

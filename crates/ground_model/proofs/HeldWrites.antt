@@ -20,6 +20,7 @@ use Rattle.ground_model.specs.Scenes.{Scene, HasVersion, IsMapped, IsShared}
 use Rattle.ground_model.specs.Own.{IsHeldBy}
 use Rattle.ground_model.specs.Leaves.{IsThereAgain, KeepsVersions, LeavesOthers}
 use Rattle.ground_model.specs.Steps.{IsHeldWrite}
+use Rattle.ground_model.proofs.Known.{known_same}
 use Rattle.ground_model.proofs.MadeOf.{made_of_stays, same_top}
 
 -- a version of a store, by its object's number from 1, is one of its versions
@@ -112,4 +113,5 @@ module _ (k block : ℕ) (old : Scene) (content : Content) (shared : IsShared ol
     held = λ n is. (is, write.others n (other_block old j k n block ne is write.held));
     versions = λ w version mine. there_again w.object version mine.is;
     made = λ w version mine m is object serial. is;
+    known = λ w on. known_same w.object old.standing.made old.standing.made refl;
   }

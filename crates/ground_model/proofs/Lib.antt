@@ -5,6 +5,7 @@ pub mod Again
 pub mod Frames
 pub mod PagesWhole
 pub mod MadeOf
+pub mod Known
 pub mod LineSteps
 pub mod HeldWrites
 pub mod Laying
@@ -45,3 +46,6 @@ pub mod SealsStay
 pub mod Naming
 pub mod Shows
 pub mod Testing
+pub mod Bounded
+pub mod FewMade
+pub mod SmallBounds

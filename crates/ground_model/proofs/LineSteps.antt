@@ -14,6 +14,7 @@ use Rattle.store_model.proofs.Locality.{laid_alike}
 use Rattle.ground_model.specs.Scenes.{Scene, HasVersion, IsLinking, AreLinksOf, IsMapped, IsShared}
 use Rattle.ground_model.specs.Leaves.{IsThereAgain, KeepsVersions, LeavesOthers}
 use Rattle.ground_model.specs.Steps.{IsLineStep}
+use Rattle.ground_model.proofs.Known.{known_same}
 use Rattle.ground_model.proofs.MadeOf.{made_of_stays, same_top}
 
 -- contents that are the same show the same pages
@@ -93,4 +94,5 @@ module _ (k : ℕ) (old : Scene) (content : Content) (states : List BlockState) 
     held = λ n is. ((step.fixed n (Held j) ne).0 is, step.same n);
     versions = λ w version mine. there_again w.object version mine.is;
     made = λ w version mine m is object serial. (let F : List Made → Type 0 = λ ms. Contains ms m in subst F step.only.made is);
+    known = λ w on. known_same w.object old.standing.made standing.made step.only.made;
   }

@@ -34,6 +34,7 @@ use Rattle.ground_model.specs.Scenes.{Scene, HasVersion, IsAsMade, AreAsMade, Is
 use Rattle.ground_model.specs.Steps.{IsLinkSet, IsNoted, IsLatest}
 use Rattle.ground_model.proofs.Committed.{Ended, alone, IsNew, WasThere, WereThere, new_or_old, next_or_both, still_linked, last_now, now_listed}
 use Rattle.ground_model.proofs.HeldWrites.{version_of, past_end, not_kept}
+use Rattle.ground_model.proofs.Known.{known_more}
 use Rattle.ground_model.proofs.LineSteps.{linking_stays}
 use Rattle.ground_model.proofs.MadeOf.{made_of_stays, rewritten_top}
 use Rattle.ground_model.proofs.Turning.{same_laid}
@@ -346,6 +347,7 @@ module _ (k : ℕ) (old new : Scene) (shared : IsShared old) (l : IsLinkSet k ol
     held = λ n is. (held_on n is, sym (l.rewrites.others n (not_base n is)));
     versions = λ w v relied. link_versions w.object v relied.is;
     made = λ w v relied m is object serial. made_before w v relied.is m is object serial;
+    known = λ w on. known_more w.object old.standing.made (noted.news ∷ []) new.standing.made noted.made;
   }
     where
       held_on : (n : ℕ) → IsHeldBy old j n → IsHeldBy new j n

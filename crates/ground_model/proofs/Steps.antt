@@ -10,6 +10,7 @@ use Rattle.ground_model.specs.Laws.{LeftIsKept, LeavesGoOn, LineStepLeads, HeldW
 use Rattle.ground_model.specs.Leaves.{IsReliedOn, IsThereAgain}
 use Rattle.ground_model.specs.Scenes.{Scene}
 use Rattle.ground_model.proofs.Frames.{resting_stays, draft_stays, merged_stays, flush_stays}
+use Rattle.ground_model.proofs.Known.{known_on}
 use Rattle.ground_model.proofs.HeldWrites.{write_shared, write_versions, write_leaves}
 use Rattle.ground_model.proofs.LineSteps.{line_shared, line_versions, line_leaves}
 use Rattle.ground_model.proofs.Links.{link_shared, link_versions, link_leaves}
@@ -71,6 +72,7 @@ leaves_go_on k old mid new one two = record {
       one.made w version relied m
       (two.made w a.again (then_relied w version relied a) m is object (subst (λ n. m.serial ≤ n) (sym a.serial) serial))
       object serial;
+  known = λ w on. known_on w.object old.standing.made mid.standing.made new.standing.made (one.known w on) (two.known w (on_mid w on));
 }
   where
     on_mid : (w : Work) → IsOn old.standing k w → IsOn mid.standing k w

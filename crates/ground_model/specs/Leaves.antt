@@ -1,5 +1,5 @@
 -- What a turn of one client leaves the others.
-use Rattle.std.specs.Prelude.{◌≡◌, ◌≢◌, ◌↔◌, ℕ, ◌≤◌, length, Some, Contains}
+use Rattle.std.specs.Prelude.{◌≡◌, ◌≢◌, ◌↔◌, ℕ, ◌≤◌, ◌==◌, List, ◌++◌, filter, length, Some, Contains}
 use Rattle.draft_model.specs.Stands.{SameBase}
 use Rattle.service_model.specs.Sound.{IsOn}
 use Rattle.service_model.specs.Standing.{Upkeep, Work, Made, client_of}
@@ -18,6 +18,15 @@ pub record IsThereAgain (old new : Scene) (object : ℕ) (version : LaidVersion)
   pub block : again.block ≡ version.block
   pub tree : (version_in again).tree ≡ (version_in version).tree
   pub pages : SameBase (pages_of old.content) (pages_of new.content) version.block
+
+-- The versions of an object that were made in this run, in their order.
+abbrev pub made_of : ℕ → List Made → List Made
+made_of object made = filter (λ (m : Made). m.object == object) made
+
+-- What is known of them stays known, and there may be more.
+pub record IsKnownStill (object : ℕ) (old new : List Made) : Type 0 where
+  pub more : List Made
+  pub are : made_of object new ≡ made_of object old ++ more
 
 -- A version of a file of client k's open update, from the update's base on.
 pub record IsReliedOn (scene : Scene) (k : ℕ) (w : Work) (version : LaidVersion) : Type 0 where
@@ -42,6 +51,9 @@ pub record Leaves (k : ℕ) (old new : Scene) : Type 0 where
   pub made : (w : Work) (version : LaidVersion) → IsReliedOn old k w version → (m : Made)
       → Contains new.standing.made m → m.object ≡ w.object → m.serial ≤ version.serial
       → Contains old.standing.made m
+  -- what is known of the versions that were made of its update's files
+  pub known : (w : Work) → IsOn old.standing k w
+      → IsKnownStill w.object old.standing.made new.standing.made
 
 -- Every version of every object is there again.
 abbrev pub KeepsVersions : Scene → Scene → Type 0

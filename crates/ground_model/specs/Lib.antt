@@ -27,3 +27,4 @@ pub mod CommitFacts
 pub mod Names
 pub mod Shows
 pub mod Tests
+pub mod Bounds

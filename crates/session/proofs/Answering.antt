@@ -1,5 +1,5 @@
 -- A turn that answers a line and writes nothing: what it keeps, and the scene after it.
-use Rattle.std.proofs.Common.{◌≡◌, ◌≢◌, ◌⊎◌, ℕ, zero, suc, ◌+◌, ◌*◌, ◌-◌, ◌<◌, ◌≤◌, Bool, List, [], ◌∷◌, ◌++◌, length, length-append, Option, Some, refl, sym, ap, ◌∙◌, subst, arith, slice_get}
+use Rattle.std.proofs.Common.{◌≡◌, ◌≢◌, ◌⊎◌, ℕ, zero, suc, ◌+◌, ◌*◌, ◌-◌, ◌<◌, ◌≤◌, Bool, List, [], ◌∷◌, ◌++◌, length, length-append, Option, Some, None, refl, sym, ap, ◌∙◌, subst, arith, slice_get}
 use Rattle.afs_base.specs.declared.head.Head.{Head}
 use Rattle.block_map.specs.States.{held_count}
 use Rattle.drives.specs.declared.device.Half.{Half}
@@ -24,7 +24,7 @@ use Rattle.ground_model.specs.Steps.{moved_to}
 use Rattle.ground_model.proofs.Lines.{became}
 use Rattle.ground_model.proofs.LineTurns.{plain_sets_none}
 use Rattle.session.specs.Answers.{ending, gives_up}
-use Rattle.session.specs.Calls.{AnswersLine, IsCounted, IsReady, Own, TurnCall, Turns}
+use Rattle.session.specs.Calls.{AnswersLine, CountsTurn, IsCounted, IsReady, Own, TurnCall, Turns}
 use Rattle.session.specs.Ends.{AreOf, GoesTo, TurnGoes}
 use Rattle.session.specs.Own.{IsAtRest, OwnsStage, OwnsUpdate}
 use Rattle.session.specs.Safe.{AreSafeDrafts, IsSafe, IsSafeStage, IsSafeStore, drafts_of, entries_left, line_of, noted_for}
@@ -37,6 +37,7 @@ use Rattle.session.specs.declared.stage.Stage.TheVariants.{Resting}
 use Rattle.session.specs.declared.turned.Fault.TheVariants as fault
 use Rattle.session.specs.declared.turned.Turned.{Turned}
 use Rattle.session.specs.declared.turned.Turned.TheVariants as turned
+use Rattle.session.proofs.Counting.{rest_kept}
 use Rattle.session.proofs.Ending.{HasPlain, ended, left_answers, left_held, left_noted, left_plain, left_with, plain_locks_none, rest_is_plain}
 use Rattle.session.proofs.Going.{SharesOn, goes_quiet, quiet_is_line, seated_on, turn_goes}
 
@@ -50,11 +51,13 @@ pub record HasAnswered {D : Type 0} (b : Ghosts D) (reply : LineReply) (es : Lis
   pub faults : (h : Half) → b.faults c.store h ≤ b.faults c'.store h
   pub last : (h : Half) → b.last_fault c.store h ≤ b.last_fault c'.store h
   pub count : (b.count c'.store ≡ b.count c.store) ⊎ CountsOne (b.count c.store) (b.count c'.store)
+  pub rest : b.tells → b.rest c.store → b.rest c'.store
   pub few : length es ≤ 3
   pub client : s'.client ≡ s.client
   pub replies : s'.replies ≡ record s.replies { items = s.replies.items ++ reply ∷ [] }
   pub held : s'.held ≡ s.held
   pub stage : s'.stage ≡ Resting
+  pub turns : s'.turns ≡ 0
   pub drafts : AreSafeDrafts (b.size c.store) s'.drafts (drafts_of s')
 
 one_noted : (n : ℕ) → noted_for n ≤ 1
@@ -110,6 +113,8 @@ module _ {D : Type 0} (b : Ghosts D) (script : ScriptValue) (reply : LineReply) 
     client = is.client;
     entries = less_left;
     lines = subst (AnswersLine script s s') (sym said) (line, reply, next, refl, is.replies);
+    counts = subst (CountsTurn s s') (sym said) (is.turns, is.stage);
+    rest = rest_kept b c.store c'.store is.rest result;
     counted = subst (IsCounted (b.count c.store) (b.count c'.store)) (sym said) is.count;
     stopped = λ h stops. (let both : turned.Line line.number ≡ turned.Stopped (fault.Drive h) = sym said ∙ stops in absurd (cc both));
     turns = λ told. subst (Turns b own script c c' s s') (sym said) (turns told);
@@ -124,12 +129,14 @@ pub record IsAnswering (s : Course) (reply : LineReply) (cl : Client) : Type 0 w
   pub held : cl.held ≡ 0
   pub plain : HasPlain cl
 
--- The course after it: as many answers, no block, at rest.
-pub record IsAfter (reply : LineReply) (s s' : Course) : Type 0 where
+-- The course after it: as many answers, no block, at rest, with no turn; and no draft behind the last line.
+pub record IsAfter (script : ScriptValue) (reply : LineReply) (s s' : Course) : Type 0 where
   pub client : s'.client ≡ s.client
   pub replies : s'.replies.items ≡ s.replies.items ++ reply ∷ []
   pub held : s'.held ≡ 0
   pub stage : s'.stage ≡ Resting
+  pub turns : s'.turns ≡ 0
+  pub closed : line_of script s' ≡ None → drafts_of s' ≡ 0
 
 module _ {D : Type 0} (b : Ghosts D) (law : LineTurnStands b) (opening : State) (scripts : Scripts) (first : ℕ) (scene : Scene) (c c' : Common D) (script : ScriptValue) (s s' : Course)
     (st : RunStands b opening scripts first scene c) (rest : IsAtRest scripts scene script s) (line : Line) (next : line_of script s ≡ Some line)
@@ -167,7 +174,7 @@ module _ {D : Type 0} (b : Ghosts D) (law : LineTurnStands b) (opening : State) 
         (law opening scripts first s.client scene c.store c'.store (entries_of c) all_noted last scene.states st.stands
         (quiet_is_line b scripts s.client scene c.store c'.store all_noted last st.stands.shared.map turn)).1.versions
 
-    module _ (after : IsAfter reply s s') (update : OwnsUpdate answered_scene script s' last.update) where
+    module _ (after : IsAfter script reply s s') (update : OwnsUpdate answered_scene script s' last.update) where
       now_is : client_of answered_scene.standing s'.client ≡ last
       now_is = ap (client_of answered_scene.standing) after.client ∙ became scene.standing answered_scene.standing s.client last rest.seated.client all_notes.becomes
 
@@ -179,6 +186,8 @@ module _ {D : Type 0} (b : Ghosts D) (law : LineTurnStands b) (opening : State) 
         held = ap (λ (x : Client). x.held) now_is ∙ left_held cl given answering.held;
         none = after.held;
         update = subst (OwnsUpdate answered_scene script s') (ap (λ (x : Client). x.update) (sym now_is)) update;
+        closed = after.closed;
+        turns = (let none = after.turns in omega (arith, none));
       }
 
       goes : SharesOn c c' all_noted c.map → AreOf scripts scene.standing s.client all_noted

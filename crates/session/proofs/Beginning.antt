@@ -194,8 +194,8 @@ module _ {D : Type 0} (b : Ghosts D) (o : OpenedOver D) (scripts : Scripts) (sce
       inside = slice_get_within scripts (k - 1) script at
 
   newcomer_owns : (script : ScriptValue) (s : Course) → 1 ≤ s.client → slice_get scripts (s.client - 1) ≡ Some script
-      → s.replies.items ≡ [] → roots_of s.drafts ≡ 0 → s.held ≡ 0 → IsAtRest scripts scene script s
-  newcomer_owns script s low at answers drafts held = record {
+      → s.replies.items ≡ [] → roots_of s.drafts ≡ 0 → s.held ≡ 0 → s.turns ≡ 0 → IsAtRest scripts scene script s
+  newcomer_owns script s low at answers drafts held turns = record {
     seated = record {
       client = seated_at script s.client low at;
       its_script = at;
@@ -206,12 +206,14 @@ module _ {D : Type 0} (b : Ghosts D) (o : OpenedOver D) (scripts : Scripts) (sce
     held = ap (λ (c : Client). c.held) (is_newcomer s.client);
     none = held;
     update = subst (OwnsUpdate scene script s) (sym (begins.idle s.client)) drafts;
+    closed = λ last. drafts;
+    turns = omega (arith, turns);
   }
 
   newcomer_own : (client : ℕ) (script : ScriptValue) (s : Session) → 1 ≤ client → slice_get scripts (client - 1) ≡ Some script → IsNewcomer client script s → IsOwn scripts scene script s.course
   newcomer_own client script s low at new =
       subst (OwnsStage scripts scene script s.course) (sym new.stage)
-      (newcomer_owns script s.course (subst (λ n. 1 ≤ n) (sym new.number) low) (ap (λ n. slice_get scripts (n - 1)) new.number ∙ at) new.answers new.drafts.none new.held)
+      (newcomer_owns script s.course (subst (λ n. 1 ≤ n) (sym new.number) low) (ap (λ n. slice_get scripts (n - 1)) new.number ∙ at) new.answers new.drafts.none new.held new.turns)
 
 pub opened_run_begins : {D : Type 0} (b : Ghosts D) → OpenedRunBegins b
 opened_run_begins b o scripts c is sayable over =

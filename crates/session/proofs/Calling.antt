@@ -9,7 +9,7 @@ use Rattle.pair_store.specs.declared.store.Blocks.{Ghosts}
 use Rattle.recovery.specs.Opening.{IsFailed}
 use Rattle.script_text.specs.ScriptValue.{ScriptValue}
 use Rattle.service_model.specs.declared.journal.Entry.{Entry}
-use Rattle.service_model.specs.Entries.{after_entries, after_entry}
+use Rattle.service_model.specs.Entries.{after_entries, after_entry, is_answer}
 use Rattle.service_model.specs.Legal.{moment_of}
 use Rattle.service_model.specs.Standing.{Scripts, Standing}
 use Rattle.service_model.proofs.Journals.{after_append}
@@ -17,14 +17,18 @@ use Rattle.tree_model.specs.States.{State}
 use Rattle.ground_model.specs.Fronts.{AreOfTurn, is_at, is_change}
 use Rattle.ground_model.specs.Leaves.{Leaves}
 use Rattle.ground_model.specs.Scenes.{Scene}
+use Rattle.ground_model.specs.Stops.{HasStopped}
+use Rattle.ground_model.proofs.Known.{known_same}
 use Rattle.ground_model.proofs.Steps.{leaves_go_on}
-use Rattle.session.specs.Calls.{AnswersLine, AreUnmoved, IsCounted, IsIn, IsLost, IsReady, KeepsNumbers, KeepsRoom, MoveCall, Own, StopsBecause, TurnCall}
-use Rattle.session.specs.Ends.{AreDue, AreOf, GoesTo, TurnEnds, TurnGoes}
+use Rattle.session.specs.Calls.{AnswersLine, CountsTurn, IsCounted, IsIn, IsLost, IsReady, KeepsNumbers, KeepsRest, KeepsRoom, MoveCall, Own, StopsBecause, TurnCall}
+use Rattle.session.specs.Ends.{AreDue, AreOf, AreUnmoved, GoesTo, StopsBy, StopsWith, TurnEnds, TurnGoes, is_unmoving}
 use Rattle.session.specs.Safe.{IsSafe, noted_for}
 use Rattle.session.specs.Shared.{RunStands, entries_of}
-use Rattle.session.specs.Values.{RepliesValue}
+use Rattle.session.specs.Values.{RepliesValue, one_more}
 use Rattle.session.specs.declared.common.Common.{Common}
 use Rattle.session.specs.declared.course.Course.{Course}
+use Rattle.session.specs.declared.turned.Fault.{Fault}
+use Rattle.session.specs.declared.turned.Fault.TheVariants as fault
 use Rattle.session.specs.declared.turned.Turned.{Turned}
 use Rattle.session.specs.declared.turned.Turned.TheVariants as turned
 
@@ -85,8 +89,8 @@ and_parts false b h = (let wrong : false ≡ true = h in absurd (cc wrong))
 unmoved_all : (now : ℕ) (es : List Entry) → AreUnmoved es → list_all (is_at now) es ≡ true
 unmoved_all now [] h = refl
 unmoved_all now (e ∷ es) h =
-    let both = and_parts (not (is_change e)) (list_all (λ x. not (is_change x)) es) h in
-    ap (λ a. a && list_all (is_at now) es) (unmoved_at now e both.0) ∙ unmoved_all now es both.1
+    let both = and_parts (is_unmoving e) (list_all is_unmoving es) h in
+    ap (λ a. a && list_all (is_at now) es) (unmoved_at now e (and_parts (not (is_change e)) (not (is_answer e.what)) both.0).0) ∙ unmoved_all now es both.1
 
 abbrev one_where : Bool → ℕ
 one_where a = cond a 1 0
@@ -98,8 +102,8 @@ not_true false h = refl
 unmoved_count : (es : List Entry) → AreUnmoved es → count_by is_change es ≡ 0
 unmoved_count [] h = refl
 unmoved_count (e ∷ es) h =
-    let both = and_parts (not (is_change e)) (list_all (λ x. not (is_change x)) es) h in
-    let here = not_true (is_change e) both.0 in
+    let both = and_parts (is_unmoving e) (list_all is_unmoving es) h in
+    let here = not_true (is_change e) (and_parts (not (is_change e)) (not (is_answer e.what)) both.0).0 in
     let rest = unmoved_count es both.1 in
     sum_by-cons (λ x. cond (is_change x) 1 0) e es ∙ omega (arith, here, rest)
 
@@ -109,6 +113,31 @@ moved_moments now es fs unmoved of_turn = record {
   moments = list_all-append (is_at now) es fs ∙ ap (λ a. a && list_all (is_at now) fs) (unmoved_all now es unmoved) ∙ of_turn.moments;
   one = (let all = sum_by-append (λ x. cond (is_change x) 1 0) es fs in let none = unmoved_count es unmoved in let one = of_turn.one in omega (arith, all, none, one));
 }
+
+-- a turn that stopped the run noted what was noted before the stop, and with it
+module _ {D : Type 0} (b : Ghosts D) (opening : State) (scripts : Scripts) (first : ℕ) where
+  -- nothing was noted
+  pub stops_here : (scene : Scene) (c c' : Common D) (k : ℕ) → entries_of c' ≡ entries_of c → HasStopped b opening scripts first c'.store c'.log.journal
+      → StopsWith b opening scripts first scene c c' k
+  stops_here scene c c' k same h = record {
+    es = [];
+    entries = same ∙ sym (append-nil (entries_of c));
+    of_client = of_none scripts scene.standing k;
+    unmoved = refl;
+    stopped = h;
+  }
+
+  -- these entries were noted before
+  pub stops_after : (scene mid : Scene) (c m c' : Common D) (k : ℕ) (es : List Entry) (f : Fault) → GoesTo b opening scripts first scene mid c m k es → AreUnmoved es
+      → StopsBy b opening scripts first mid m c' k f → StopsBy b opening scripts first scene c c' k f
+  stops_after scene mid c m c' k es (fault.Drive half) goes unmoved on = record {
+    es = es ++ on.es;
+    entries = on.entries ∙ ap (λ xs. xs ++ on.es) goes.entries ∙ append_assoc (entries_of c) es on.es;
+    of_client = of_append scripts scene.standing k es on.es goes.of_client (subst (λ (s : Standing). AreOf scripts s k on.es) goes.leads on.of_client);
+    unmoved = list_all-append is_unmoving es on.es ∙ ap (λ a. a && list_all is_unmoving on.es) unmoved ∙ on.unmoved;
+    stopped = on.stopped;
+  }
+  stops_after scene mid c m c' k es (fault.Bad block why) goes unmoved on = on
 
 -- ---- scenes
 
@@ -120,6 +149,7 @@ leaves_same k scene = record {
   held = λ n is. (is, refl);
   versions = λ w version relied. record { again = version; is = relied.is; serial = refl; block = refl; tree = refl; pages = λ p n at. refl };
   made = λ w version relied m is object serial. is;
+  known = λ w on. known_same w.object scene.standing.made scene.standing.made refl;
 }
 
 pub goes_trans : {D : Type 0} (b : Ghosts D) (opening : State) (scripts : Scripts) (first : ℕ) (old mid new : Scene) (c d e : Common D) (k : ℕ) (es fs : List Entry)
@@ -176,6 +206,14 @@ module _ {D : Type 0} (b : Ghosts D) (own own' : Own) (script : ScriptValue) (c 
   moved_lines turned.Finished (all, same) = absurd (let e = ap (λ (x : RepliesValue). length x.items) one.replies in omega (arith, e, all, line))
   moved_lines (turned.Stopped fault) same = same ∙ one.replies
 
+  -- the part counted no turn
+  moved_counts : t.turns ≡ s.turns → (r : Turned) → CountsTurn t s' r → CountsTurn s s' r
+  moved_counts turns (turned.Line n) counts = counts
+  moved_counts turns turned.Again counts = counts ∙ ap one_more turns
+  moved_counts turns (turned.Work job) counts = counts ∙ ap one_more turns
+  moved_counts turns turned.Finished counts = counts ∙ turns
+  moved_counts turns (turned.Stopped fault) counts = tt
+
   moved_lost : b.tells → IsLost b own' script mid t → IsLost b own script c s
   moved_lost told none opening scripts first scene is =
       let there = one.moves told opening scripts first scene is in
@@ -210,16 +248,19 @@ module _ {D : Type 0} (b : Ghosts D) (own own' : Own) (script : ScriptValue) (c 
   moved_ends opening scripts first scene after es goes unmoved turned.Again answers ends = moved_goes opening scripts first scene after es goes unmoved ends
   moved_ends opening scripts first scene after es goes unmoved (turned.Work job) answers ends = moved_goes opening scripts first scene after es goes unmoved ends
   moved_ends opening scripts first scene after es goes unmoved turned.Finished (all, same) ends = absurd (let e = ap (λ (x : RepliesValue). length x.items) one.replies in omega (arith, e, all, line))
-  moved_ends opening scripts first scene after es goes unmoved (turned.Stopped fault) answers ends = ends
+  moved_ends opening scripts first scene after es goes unmoved (turned.Stopped fault) answers ends =
+      stops_after b opening scripts first scene after c mid c' s'.client es fault (subst (λ (k : ℕ). GoesTo b opening scripts first scene after c mid k es) (sym (two.client ∙ one.client)) goes) unmoved ends
 
-  pub moved_call : TurnCall b own script c c' s s' result
-  moved_call = record {
+  pub moved_call : t.turns ≡ s.turns → TurnCall b own script c c' s s' result
+  moved_call turns = record {
     store = two.store;
     safe = two.safe;
     numbers = keeps_trans b c mid c' s.client one.numbers (subst (λ (k : ℕ). KeepsNumbers b mid c' k) one.client two.numbers);
     client = two.client ∙ one.client;
     entries = (let x = one.entries in let y = two.entries in omega (arith, x, y));
     lines = moved_lines result two.lines;
+    counts = moved_counts turns result two.counts;
+    rest = subst (λ (d : D). KeepsRest b d c'.store result) one.same two.rest;
     counted = subst (λ (d : D). IsCounted (b.count d) (b.count c'.store) result) one.same two.counted;
     stopped = moved_stop;
     turns = λ told opening scripts first scene is.

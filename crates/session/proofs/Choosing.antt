@@ -9,7 +9,7 @@ use Rattle.pair_store.specs.declared.store.Blocks.{Ghosts}
 use Rattle.pool_draft.specs.Sets.{picked_of, view_at}
 use Rattle.recovery.specs.Opening.{head_of}
 use Rattle.script_text.specs.ScriptValue.{ScriptValue}
-use Rattle.script_text.specs.declared.command.Command.TheVariants.{Commit}
+use Rattle.script_text.specs.declared.command.Command.TheVariants.{Commit, Do}
 use Rattle.script_text.specs.declared.reply.LineRefusal.TheVariants.{Idle}
 use Rattle.script_text.specs.declared.script.Line.{Line}
 use Rattle.service_model.specs.Causes.{cause_of}
@@ -31,7 +31,7 @@ use Rattle.ground_model.proofs.HeadsTold.{heads_tell}
 use Rattle.session.specs.Answers.{IsAtCommand, IsCaused, IsRefusing}
 use Rattle.session.specs.Calls.{IsIn, IsLost, IsReady}
 use Rattle.session.specs.Names.{HasNoHead, IsHead}
-use Rattle.session.specs.Own.{IsAtRest, IsBehind, IsClashing, IsCommitting, IsDeciding, IsMerged, IsTaken, IsUnlocked, OwnsUpdate}
+use Rattle.session.specs.Own.{HasFed, IsAtRest, IsBehind, IsClashing, IsCommitting, IsDeciding, IsMerged, IsMergedIn, IsTaken, IsUnlocked, OwnsUpdate}
 use Rattle.session.specs.Safe.{AreSafeDrafts, drafts_of, object_of, root_of, serial_of, view_of}
 use Rattle.session.specs.declared.common.Common.{Common}
 use Rattle.session.specs.declared.course.Course.{Course}
@@ -116,7 +116,7 @@ module _ {D : Type 0} (b : Ghosts D) (script : ScriptValue) (c : Common D) (s : 
   }
 
   -- something is told of a file that has versions
-  pub none_told : HasNoHead c.heads.items (object_of s) → IsLost b IsMerged script c s
+  pub none_told : {more : ℕ} → HasNoHead c.heads.items (object_of s) → IsLost b (IsMergedIn more) script c s
   none_told none opening scripts first scene is =
       let base : IsBase scene is.mine.work.object (serial_of s) (root_of s) is.mine.tree = is.mine.merged.base in
       let object_is : object_of s ≡ is.mine.work.object = is.mine.committing.plain.object in
@@ -160,6 +160,14 @@ idle_cause b script c s at none opening scripts first scene is line next =
     closed None own = refl
     closed (Some u) own = absurd (let one = own.plain.drafts in omega (arith, one, none))
 
+-- no page is fed for a line that commits
+fed_none : (script : ScriptValue) (s : Course) → IsAtCommand script s Commit → HasFed script s → s.drafts.fed ≡ 0
+fed_none script s at (inl none) = none
+fed_none script s at (inr feeding) =
+    let same : at.line ≡ feeding.line = some_is (sym at.next ∙ feeding.next) in
+    let both : Commit ≡ Do feeding.step = sym at.is ∙ ap (λ (x : Line). x.command) same ∙ feeding.command in
+    absurd (cc both)
+
 -- an update in which something was written is merged with nothing, at its base
 pub begins_merged : {D : Type 0} (b : Ghosts D) (script : ScriptValue) (c : Common D) (s : Course) → IsAtCommand script s Commit → drafts_of s ≡ 1 → TellsWrites (view_of s) true
     → Owns b IsAtRest IsMerged script c s
@@ -182,6 +190,10 @@ begins_merged b script c s at one wrote opening scripts first scene is =
         held = is.mine.held ∙ sym is.mine.none;
       };
       merged = subst (λ n. HasMerged scene d.work n (root_of s) d.work.base (view_of s)) (sym d.serial) (merge_begins scene d.work (root_of s) (view_of s) d.draft);
+      turns =
+          let low = is.mine.turns in
+          let none = fed_none script s at d.fed in
+          omega (arith, low, none);
     }
 
 -- the draft that is picked is the client's

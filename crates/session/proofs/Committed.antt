@@ -46,7 +46,7 @@ use Rattle.session.specs.Blocks.{IsFinished, head_with, made_at, made_of}
 use Rattle.session.specs.Calls.{AnswersLine, IsIn, TurnCall}
 use Rattle.session.specs.Ends.{GoesTo, TurnGoes}
 use Rattle.session.specs.Links.{TriesToLink}
-use Rattle.session.specs.Own.{IsAtRest, IsMerged, IsOwn, IsSeated, IsWritingBy, OwnsStage, OwnsUpdate}
+use Rattle.session.specs.Own.{IsAtRest, IsMergedIn, IsOwn, IsSeated, IsWritingBy, OwnsStage, OwnsUpdate}
 use Rattle.session.specs.Safe.{object_of, root_of, serial_of, view_of}
 use Rattle.session.specs.Shared.{RunStands, entries_of}
 use Rattle.session.specs.declared.common.Common.{Common}
@@ -102,7 +102,7 @@ commit_moments now k line made = record {
 module _ {D : Type 0} (b : Ghosts D) (laws : b.tells → BlockLaws b) (script : ScriptValue) (c c1 c' : Common D) (s s' : Course) (flush : Plan) (top : ℕ) (result : Turned)
     (t : TriesToLink b script c c1 s flush top (Ok Set)) (f : IsFinished b script top c1 c' s s' result)
     (opening : State) (scripts : Scripts) (first : ℕ) (scene : Scene) (told : b.tells) (is : IsIn b (IsWritingBy flush) script c s opening scripts first scene) where
-  abbrev m : IsMerged scripts scene script s
+  abbrev m : IsMergedIn flush.written scripts scene script s
   m = is.mine.merged
 
   abbrev es : List Entry
@@ -277,6 +277,8 @@ module _ {D : Type 0} (b : Ghosts D) (laws : b.tells → BlockLaws b) (script : 
     none = ap (λ (x : Course). x.held) f.course;
     update =
         subst (λ (o : Option Update). OwnsUpdate new script s' o) (sym (ap (λ k. (client_of new.standing k).update) same_client ∙ ap (λ (x : Client). x.update) own_then)) f.drafts.none;
+    closed = λ last. f.drafts.none;
+    turns = (let none : s'.turns ≡ 0 = ap (λ (x : Course). x.turns) f.course in omega (arith, none));
   }
 
   mine_then : IsOwn scripts new script s'
@@ -300,6 +302,8 @@ committed_call b laws script c c1 c' s s' flush top result t f =
       client = ap (λ (x : Course). x.client) f.course;
       entries = appended_room b script c c1 c' s s' flush top result t f;
       lines = subst (AnswersLine script s s') f.answer (appended_line b script c c1 c' s s' flush top result t f);
+      counts = (ap (λ (x : Course). x.turns) f.course, ap (λ (x : Course). x.stage) f.course ∙ t.ready.ready.stage);
+      rest = λ told was. subst (λ (d : _). b.rest d) (sym (store_is b script c c1 c' s s' flush top result t f)) (t.tried.rest told was);
       counted = inr (appended_count b script c c1 c' s s' flush top result t f);
       stopped = λ h is. (let wrong : turned.Line f.line.number ≡ turned.Stopped (fault.Drive h) = is in absurd cc);
       turns = λ told opening scripts first scene is. committed_goes b laws script c c1 c' s s' flush top result t f opening scripts first scene told is;

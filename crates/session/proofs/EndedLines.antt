@@ -80,7 +80,7 @@ module _ {D : Type 0} (b : Ghosts D) (laws : b.tells → LineTurnStands b) (scri
     goes : TurnGoes b opening scripts first scene c c' script s'
     goes =
         answered_goes b (laws told) opening scripts first scene c c' script s s' at.stands at.mine line next es ends.client reply ends.notes ends.answering (drafts_of t) ends.open_is read moments
-        (after_answer b reply (es ++ ending s.client line at_end) c c' s s' has at.mine.none)
+        (after_answer b script reply (es ++ ending s.client line at_end) c c' s s' has at.mine.none ready.line t.drafts (drafts_left b script line reply es c mid c' s t s' come is))
         (own_left after script t.drafts s' ends.client at_end (drafts_left b script line reply es c mid c' s t s' come is) (λ same. ends.update after keeps same))
         has.shares
         (of_append scripts scene.standing s.client es (ending s.client line at_end) ends.of_client (ending_of scripts (after_entries scripts scene.standing es) s.client line at_end))

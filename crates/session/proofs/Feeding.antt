@@ -1,5 +1,5 @@
 -- A turn of a walk that reads the page which the walk needs next.
-use Rattle.std.proofs.Common.{◌≡◌, inr, ℕ, ◌+◌, ◌<◌, ◌≤◌, List, length, Some, Result, Ok, Err, sym, ap, ◌∙◌, subst}
+use Rattle.std.proofs.Common.{◌≡◌, inr, ℕ, ◌+◌, ◌<◌, ◌≤◌, List, length, Some, Result, Ok, Err, sym, ap, ◌∙◌, subst, arith}
 use Rattle.block_map.specs.States.{held_count}
 use Rattle.joint_walk.specs.Calls.{next_of, waiting_job}
 use Rattle.joint_walk.specs.Walks.{WalkValue}
@@ -14,6 +14,7 @@ use Rattle.store_model.specs.Laws.{pages_of}
 use Rattle.store_model.proofs.Edits.{some_is}
 use Rattle.tree_model.specs.States.{State}
 use Rattle.ground_model.specs.Ahead.{IsWalking}
+use Rattle.ground_model.specs.Bounds.{turns_to}
 use Rattle.ground_model.specs.Scenes.{Scene, IsShared}
 use Rattle.ground_model.specs.Shows.{ShowsPage}
 use Rattle.ground_model.proofs.Ahead.{walk_feeds}
@@ -22,7 +23,7 @@ use Rattle.session.specs.Calls.{IsIn, IsReady, IsWorkOf, TurnCall}
 use Rattle.session.specs.Own.{IsWalkingBy, IsWalkingOn}
 use Rattle.session.specs.Reads.{IsPageOf, ReadCall}
 use Rattle.session.specs.Safe.{AreSafeDrafts, HasDraftIn, IsSafe, IsSafeStage, root_of, view_of}
-use Rattle.session.specs.Values.{RepliesValue}
+use Rattle.session.specs.Values.{RepliesValue, one_more}
 use Rattle.session.specs.Walks.{HasTaken}
 use Rattle.session.specs.declared.common.Common.{Common}
 use Rattle.session.specs.declared.course.Course.{Course}
@@ -32,6 +33,7 @@ use Rattle.session.specs.declared.turned.Fault.{Fault}
 use Rattle.session.specs.declared.turned.Turned.{Turned}
 use Rattle.session.specs.declared.turned.Turned.TheVariants as turned
 use Rattle.session.proofs.BlockLaws.{BlockLaws}
+use Rattle.session.proofs.Counting.{one_more_low}
 use Rattle.session.proofs.NextVersions.{work_by}
 use Rattle.session.proofs.WalkReads.{AreShown, Shown, failed_call, given_is, place_shown, went_call}
 use Rattle.session.proofs.Walking.{KeepsCommit, committing_then, under_way_goes}
@@ -75,6 +77,9 @@ module _ {D : Type 0} (b : Ghosts D) (script : ScriptValue) (c c' : Common D) (s
       object = taken.same.object;
     }
 
+    turns_is : s'.turns ≡ one_more s.turns
+    turns_is = ap (λ (x : Course). x.turns) taken.only
+
     stage_is : s'.stage ≡ stage.Walking taken.more
     stage_is = ap (λ (x : Course). x.stage) taken.only
 
@@ -105,11 +110,16 @@ module _ {D : Type 0} (b : Ghosts D) (script : ScriptValue) (c c' : Common D) (s
               (walk_feeds scene x.work x.upto x.root x.tree x.before (view_of s) (view_of s') (root_of s) x.made x.fed walk taken.more path block page x.walking next
               (page_is told opening scripts first scene is) taken.feeds);
           serial = taken.same.serial ∙ x.serial;
+          turns =
+              let low = x.turns in
+              let one = one_more_low s.turns in
+              let is = turns_is in
+              subst (λ h. s'.turns ≤ turns_to scene.standing.made h x.work x.upto + (1 + h) + (x.fed + 1)) (sym course_is.held) (omega (arith, low, one, is));
         }
 
     pub feeds_call : TurnCall b (IsWalkingBy walk) script c c' s s' answer
     feeds_call =
-        went_call b (IsPageOf level) (IsWalkingBy walk) script c c' s block result laws ready read page_shown page was s' safe course_is.client course_is.replies course_is.held
+        went_call b (IsPageOf level) (IsWalkingBy walk) script c c' s block result laws ready read page_shown page was s' safe course_is.client course_is.replies course_is.held turns_is
         (λ told opening scripts first scene is.
         under_way_goes b (laws told) opening scripts first scene c c' script s' is.stands read.alone (read.read told)
         (inr (taken.more, stage_is, walks told opening scripts first scene is)))

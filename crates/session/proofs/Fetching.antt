@@ -35,11 +35,13 @@ use Rattle.session.specs.Own.{HasFed, IsAtRest, IsDrafting, IsFeeding, IsOnItsWa
 use Rattle.session.specs.Reads.{IsPageOf, ReadCall}
 use Rattle.session.specs.Safe.{IsSafeStage, drafts_of, root_of, view_of}
 use Rattle.session.specs.Shared.{entries_of}
+use Rattle.session.specs.Values.{one_more}
 use Rattle.session.specs.declared.common.Common.{Common}
 use Rattle.session.specs.declared.course.Course.{Course}
 use Rattle.session.specs.declared.stage.Stage.{Stage}
 use Rattle.session.specs.declared.stage.Stage.TheVariants.{Resting}
 use Rattle.session.specs.declared.turned.Turned.TheVariants as turned
+use Rattle.session.proofs.Counting.{one_more_within}
 use Rattle.session.proofs.Ending.{rest_is_plain}
 use Rattle.session.proofs.FedPages.{fed_live, way_goes_on}
 use Rattle.session.proofs.Going.{goes_read, shares_read, turn_goes}
@@ -110,10 +112,10 @@ is_fed old new q page picked base feeds shown count more = record {
 
 module _ {D : Type 0} (b : Ghosts D) (script : ScriptValue) (c c' : Common D) (s : Course) (step : Step) (q : List ℕ) (block : ℕ) (page : PageValue) (command : IsAtCommand script s (Do step))
     (one : drafts_of s ≡ 1) (rights : has_rights s.rights (right_for step) ≡ true) (few : s.drafts.count < 128) (wants : Wants (copies (view_of s)) (end_of step) q block)
-    (new : PoolSet) (turns : ℕ) (was_fed : IsFed s.drafts new q page) where
+    (new : PoolSet) (was_fed : IsFed s.drafts new q page) where
   -- the course after it
   abbrev next : Course
-  next = record s { drafts = new; turns = turns }
+  next = record s { drafts = new; turns = one_more s.turns }
 
   module _ (scene : Scene) (after : Scene) (keeps : KeepsVersions scene after) (shows : pages_of scene.content block ≡ Some page) (u : Update) (own : IsDrafting scene script s u) where
     draft_fed : HasDraft scene own.work (root_of s) (view_at new 0)
@@ -181,6 +183,8 @@ module _ {D : Type 0} (b : Ghosts D) (script : ScriptValue) (c c' : Common D) (s
         held = at.mine.held;
         none = at.mine.none;
         update = subst (OwnsUpdate after script next) (sym has.is) (own_fed scene after keeps page_is has.update has.own);
+        closed = λ last. (let both : None ≡ Some command.line = sym last ∙ command.next in absurd (cc both));
+        turns = (let low = at.mine.turns in let fed = was_fed.more in let one = one_more_within s.turns s.drafts.fed low in omega (arith, fed, one));
       }
 
       goes : s.stage ≡ Resting → TurnGoes b opening scripts first scene c c' script next
@@ -199,6 +203,8 @@ module _ {D : Type 0} (b : Ghosts D) (script : ScriptValue) (c c' : Common D) (s
         (record {
           alone = read.alone;
           one = read.one;
+          rest = read.rest;
+          turns = refl;
           client = refl;
           replies = refl;
           held = refl;

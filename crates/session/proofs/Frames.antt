@@ -9,14 +9,16 @@ use Rattle.pair_store.specs.declared.store.Blocks.{Ghosts}
 use Rattle.script_text.specs.ScriptValue.{ScriptValue}
 use Rattle.joint_walk.specs.Walks.{WalkValue}
 use Rattle.version_chain.specs.Flush.{Plan}
+use Rattle.ground_model.specs.Bounds.{turns_to}
 use Rattle.ground_model.specs.Laws.{Keeps}
 use Rattle.ground_model.specs.Leaves.{Leaves}
 use Rattle.ground_model.specs.Own.{IsBase}
 use Rattle.ground_model.specs.Scenes.{Scene, IsShared}
+use Rattle.ground_model.proofs.Bounded.{turns_are_left}
 use Rattle.ground_model.proofs.Ahead.{base_is_left, base_low, walk_is_left}
 use Rattle.ground_model.proofs.Steps.{left_is_kept}
 use Rattle.session.specs.Laws.{OwnIsLeft, SafeIsLeft}
-use Rattle.session.specs.Own.{IsAtRest, IsCommittingOf, IsDrafting, IsMerged, IsNaming, IsSeated, IsTaken, IsWalkingOn, IsWritingOut, OwnsStage, OwnsUpdate}
+use Rattle.session.specs.Own.{IsAtRest, IsCommittingOf, IsDrafting, IsMergedIn, IsNaming, IsSeated, IsTaken, IsWalkingOn, IsWritingOut, OwnsStage, OwnsUpdate}
 use Rattle.session.specs.Safe.{AreSafeDrafts, IsSafeStage, drafts_of, serial_of}
 use Rattle.session.specs.declared.course.Course.{Course}
 use Rattle.session.specs.declared.stage.Stage.{Stage}
@@ -62,6 +64,8 @@ module _ (scripts : Scripts) (old new : Scene) (script : ScriptValue) (s : Cours
     update =
         let F : Option Update → Type 0 = OwnsUpdate new script s in
         subst F (sym (ap (λ (c : Client). c.update) leaves.client)) (update_stays (client_of old.standing s.client).update h.seated.client.low refl h.update);
+    closed = h.closed;
+    turns = h.turns;
   }
 
   -- ---- within a commit
@@ -82,13 +86,19 @@ module _ (scripts : Scripts) (old new : Scene) (script : ScriptValue) (s : Cours
   on_file : (u : Update) (w : Work) → IsCommittingOf scripts old script s u w → IsOn old.standing s.client w
   on_file u w h = record { update = u; number = h.seated.client.low; is_open = h.is_open; listed = alone_listed u w h.plain.works }
 
-  abbrev merging_stays : IsMerged scripts old script s → IsMerged scripts new script s
-  merging_stays h = record {
+  -- as many turns are left it as it may have had
+  turns_stay : (u : Update) (w : Work) (upto more : ℕ) → IsCommittingOf scripts old script s u w → s.turns ≤ turns_to old.standing.made s.held w upto + more
+      → s.turns ≤ turns_to new.standing.made s.held w upto + more
+  turns_stay u w upto more h low = (let left = turns_are_left s.client old new s.held w upto leaves (on_file u w h) in omega (arith, low, left))
+
+  abbrev merging_stays : (more : ℕ) → IsMergedIn more scripts old script s → IsMergedIn more scripts new script s
+  merging_stays more h = record {
     update = h.update;
     work = h.work;
     tree = h.tree;
     committing = committing_stays h.update h.work h.committing;
     merged = kept.merged h.work (on_file h.update h.work h.committing) _ _ h.tree _ h.merged;
+    turns = turns_stay h.update h.work (serial_of s) more h.committing h.turns;
   }
 
   naming_stays : (next : ℕ) → IsShared new → IsNaming scripts old script s next → IsNaming scripts new script s next
@@ -97,7 +107,7 @@ module _ (scripts : Scripts) (old new : Scene) (script : ScriptValue) (s : Cours
       let base : IsBase new h.merged.work.object (serial_of s + 1) next h.tree = base_is_left s.client old new h.merged.work (serial_of s + 1) next h.tree leaves
       (on_file h.merged.update h.merged.work h.merged.committing) (omega (arith, from)) h.base in
       let low : serial_of s + 1 ≤ last_serial new.standing.state h.merged.work.object = base_low new h.merged.work.object (serial_of s + 1) next h.tree shared base in
-      record { merged = merging_stays h.merged; later = omega (arith, low); tree = h.tree; base = base }
+      record { merged = merging_stays (1 + s.held) h.merged; later = omega (arith, low); tree = h.tree; base = base }
 
   walking_stays : (walk : WalkValue) → IsShared new → IsSound scripts new.standing → IsWalkingOn scripts old script s walk → IsWalkingOn scripts new script s walk
   walking_stays walk shared sound h = record {
@@ -112,15 +122,17 @@ module _ (scripts : Scripts) (old new : Scene) (script : ScriptValue) (s : Cours
     fed = h.fed;
     walking = walk_is_left scripts s.client old new h.work h.upto h.root h.tree h.before _ _ h.made h.fed walk leaves shared sound (on_file h.update h.work h.committing) h.walking;
     serial = h.serial;
+    turns = (let low = h.turns in let left = turns_are_left s.client old new s.held h.work h.upto leaves (on_file h.update h.work h.committing) in omega (arith, low, left));
   }
 
   writing_stays : (flush : Plan) → IsWritingOut scripts old script s flush → IsWritingOut scripts new script s flush
   writing_stays flush h = record {
-    merged = merging_stays h.merged;
+    merged = merging_stays flush.written h.merged;
     flushing = kept.flush _ _ flush h.flushing;
     top = h.top;
     alone = h.alone;
     number = h.number;
+    within = h.within;
     unworn = h.unworn;
   }
 
@@ -132,7 +144,7 @@ module _ (scripts : Scripts) (old new : Scene) (script : ScriptValue) (s : Cours
   stage_stays (Walking walk) shared sound h = walking_stays walk shared sound h
   stage_stays (Writing flush) shared sound h = writing_stays flush h
 
-seat_of : (scripts : Scripts) (scene : Scene) (script : ScriptValue) (s : Course) (stage : Stage) → OwnsStage scripts scene script s stage → IsSeated scripts scene script s
+pub seat_of : (scripts : Scripts) (scene : Scene) (script : ScriptValue) (s : Course) (stage : Stage) → OwnsStage scripts scene script s stage → IsSeated scripts scene script s
 seat_of scripts scene script s Resting h = h.seated
 seat_of scripts scene script s (Naming next) h = h.merged.committing.seated
 seat_of scripts scene script s (Walking walk) h = h.committing.seated

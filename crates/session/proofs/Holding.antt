@@ -8,17 +8,19 @@ use Rattle.script_text.specs.ScriptValue.{ScriptValue}
 use Rattle.script_text.specs.declared.script.Line.{Line}
 use Rattle.service_model.specs.Entries.{after_entries, noting}
 use Rattle.service_model.specs.Legal.{IsHoldable}
-use Rattle.service_model.specs.Standing.{Scripts, Client, Update, client_of, free, need}
+use Rattle.service_model.specs.Standing.{Scripts, Client, Made, Update, Work, client_of, free, need}
 use Rattle.service_model.specs.declared.journal.Entry.{Entry}
 use Rattle.service_model.specs.declared.journal.What.{What}
 use Rattle.service_model.specs.declared.journal.What.TheVariants.{Held}
 use Rattle.tree_model.specs.States.{State}
+use Rattle.ground_model.specs.Bounds.{turns_to}
 use Rattle.ground_model.specs.CommitLines.{IsCommitting}
 use Rattle.ground_model.specs.LineTurns.{IsLineTurn}
 use Rattle.ground_model.specs.Lines.{in_line}
 use Rattle.ground_model.specs.Runs.{IsRead}
 use Rattle.ground_model.specs.Scenes.{Scene}
 use Rattle.ground_model.specs.Steps.{moved_to}
+use Rattle.ground_model.proofs.Bounded.{turns_of_more}
 use Rattle.ground_model.proofs.CommitLines.{holding_is_noted}
 use Rattle.ground_model.proofs.FreeBlocks.{free_is_counted}
 use Rattle.ground_model.proofs.LineTurns.{holding_takes}
@@ -28,7 +30,7 @@ use Rattle.session.specs.Blocks.{IsNeeded}
 use Rattle.session.specs.Calls.{IsIn, IsReady, KeepsNumbers, KeepsRoom, MoveCall}
 use Rattle.session.specs.Ends.{AreOf, GoesTo}
 use Rattle.session.specs.Own.{IsHolding, IsMerged, IsTaken, IsUnworn}
-use Rattle.session.specs.Safe.{AreSafeDrafts, IsSafe, IsSafeStage, IsSafeStore, drafts_of, line_of, noted_for}
+use Rattle.session.specs.Safe.{AreSafeDrafts, IsSafe, IsSafeStage, IsSafeStore, drafts_of, line_of, noted_for, serial_of}
 use Rattle.session.specs.Shared.{entries_of}
 use Rattle.session.specs.declared.common.Common.{Common}
 use Rattle.session.specs.declared.course.Course.{Course}
@@ -53,6 +55,12 @@ noted_none (suc n) none = absurd (omega arith)
 taken_all : (n : ℕ) (u : Update) (noted : List What) → 0 < n → noted ≡ Held n ∷ [] → n ≡ need u → IsTaken n u noted
 taken_all zero u noted some is need_is = absurd (omega arith)
 taken_all (suc n) u noted some is need_is = (is, need_is)
+
+-- who holds more blocks may have taken more turns
+still_fits : (made : List Made) (held more : ℕ) (w : Work) (upto turns : ℕ) → held ≤ more → turns ≤ turns_to made held w upto + 0 → turns ≤ turns_to made more w upto + 0
+still_fits made held more w upto turns few was =
+    let grows = turns_of_more made held more w upto few in
+    omega (arith, grows, was)
 
 -- an entry of the client is its own
 pub one_of : (k : ℕ) (line : Line) (what : What) (n : ℕ) (e : Entry) → slice_get (in_line k line what ∷ []) n ≡ Some e → e.client ≡ k
@@ -188,9 +196,10 @@ module _ {D : Type 0} (b : Ghosts D) (script : ScriptValue) (c c' : Common D) (s
         let noted_is : client.noted ≡ Held blocks ∷ [] = ap (λ (xs : List What). xs ++ Held blocks ∷ []) fresh in
         record {
           deciding =
-              still_deciding scripts scene script s (b.content c'.store) c'.map (e ∷ []) client blocks s.stage s.turns m turn.notes
+              still_deciding scripts scene script s (b.content c'.store) c'.map (e ∷ []) client blocks s.stage s.turns 0 m turn.notes
               ((laws told).lines opening scripts first s.client scene c.store c'.store (entries_of c) (e ∷ []) client c'.map is.stands.stands turn).1
               m.committing.is_open m.committing.seated.answers (taken_all blocks m.update client.noted some noted_is need_is) refl
+              (still_fits scene.standing.made s.held blocks m.work (serial_of s) s.turns (omega (arith, none)) m.turns)
               is.mine.deciding.open_to.unlocked is.mine.deciding.last;
           unworn = is.mine.unworn;
           some = some;

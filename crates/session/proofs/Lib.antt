@@ -1,10 +1,12 @@
 pub mod OtherLocks
+pub mod Counting
 pub mod Calling
 pub mod Going
 pub mod Reading
 pub mod Ending
 pub mod Answering
 pub mod LineEnds
+pub mod LineBounds
 pub mod RefusedLines
 pub mod EndedLines
 pub mod Abandoning

@@ -1,5 +1,5 @@
 -- A turn that did something for its line and then answered it.
-use Rattle.std.proofs.Common.{◌≡◌, ◌≢◌, ◌⊎◌, inl, inr, ℕ, zero, suc, ◌+◌, ◌^◌, ◌<◌, ◌≤◌, ◌==◌, Bool, true, false, List, [], ◌∷◌, ◌++◌, length, length-append, Option, Some, None, refl, sym, ap, ◌∙◌, subst, arith, slice_get, get_or}
+use Rattle.std.proofs.Common.{◌≡◌, ◌≢◌, ◌⊎◌, inl, inr, ℕ, zero, suc, ◌+◌, ◌^◌, ◌<◌, ◌≤◌, ◌==◌, Bool, true, false, List, [], ◌∷◌, ◌++◌, length, length-append, Option, Some, None, refl, sym, ap, ◌∙◌, subst, arith, slice_get, get_or, eq-eqb}
 use Rattle.std.specs.Prelude.{IfSome}
 use Rattle.std.proofs.lemmas.Option.{slice_get-get_or}
 use Rattle.drives.specs.declared.device.Half.{Half}
@@ -31,6 +31,7 @@ use Rattle.session.specs.declared.common.Common.{Common}
 use Rattle.session.specs.declared.course.Course.{Course}
 use Rattle.session.specs.declared.stage.Stage.TheVariants.{Resting}
 use Rattle.session.proofs.Answering.{HasAnswered, IsAfter}
+use Rattle.session.proofs.Counting.{same_rest}
 use Rattle.session.proofs.Ending.{its_next, left_with}
 use Rattle.session.proofs.Going.{SharesOn, shares_noted, shares_read, shares_same, shares_trans}
 
@@ -42,6 +43,12 @@ line_is script s low = by script.lines low
     by : (lines : List Line) → length s.replies.items < length lines → (line : Line) × (slice_get lines (length s.replies.items) ≡ Some line)
     by [] below = absurd (omega (arith, below))
     by (x ∷ lines) below = (get_or (x ∷ lines) (length s.replies.items) x, slice_get-get_or (x ∷ lines) (length s.replies.items) x below)
+
+-- where there is no line at a place, all are before it
+pub none_within : {A : Type 0} (xs : List A) (n : ℕ) → slice_get xs n ≡ None → length xs ≤ n
+none_within [] n none = omega arith
+none_within (x ∷ xs) zero none = absurd (cc none)
+none_within (x ∷ xs) (suc n) none = (let rest = none_within xs n none in omega (arith, rest))
 
 -- what is said of the line that there is
 pub for_line : (o : Option Line) (P : Line → Type 0) (line : Line) → o ≡ Some line → IfSome o P → P line
@@ -73,6 +80,7 @@ pub record HasCome {D : Type 0} (b : Ghosts D) (es : List Entry) (c mid : Common
   pub faults : (h : Half) → b.faults c.store h ≤ b.faults mid.store h
   pub last : (h : Half) → b.last_fault c.store h ≤ b.last_fault mid.store h
   pub count : (b.count mid.store ≡ b.count c.store) ⊎ CountsOne (b.count c.store) (b.count mid.store)
+  pub rest : b.tells → b.rest c.store → b.rest mid.store
   pub few : length es ≤ 1
   pub client : t.client ≡ s.client
   pub replies : t.replies ≡ s.replies
@@ -100,6 +108,7 @@ come_to b c s t may = record {
   faults = λ h. omega arith;
   last = λ h. omega arith;
   count = inl refl;
+  rest = λ told rest. rest;
   few = omega arith;
   client = may.client;
   replies = may.replies;
@@ -109,14 +118,16 @@ come_to b c s t may = record {
 }
 
 -- a block was read before it
-pub come_read : {D : Type 0} (b : Ghosts D) (c mid : Common D) (s t : Course) → StoreAlone b c mid → CountsOne (b.count c.store) (b.count mid.store) → MayCome b c s t → HasCome b [] c mid s t
-come_read {D} b c mid s t alone one may = record {
+pub come_read : {D : Type 0} (b : Ghosts D) (c mid : Common D) (s t : Course) → StoreAlone b c mid → CountsOne (b.count c.store) (b.count mid.store) → (b.tells → b.rest c.store → b.rest mid.store) → MayCome b c s t
+    → HasCome b [] c mid s t
+come_read {D} b c mid s t alone one rest may = record {
   shares = shares_read b c mid alone;
   size = alone.size;
   room = ap (λ (x : Common D). room_of x) alone.only;
   faults = alone.faults;
   last = alone.last;
   count = inr one;
+  rest = rest;
   few = omega arith;
   client = may.client;
   replies = may.replies;
@@ -134,6 +145,7 @@ come_noted {D} b e c mid new s t come is = record {
   faults = λ h. subst (λ n. b.faults c.store h ≤ n) (sym (ap (λ (x : Common D). b.faults x.store h) is.only)) (come.faults h);
   last = λ h. subst (λ n. b.last_fault c.store h ≤ n) (sym (ap (λ (x : Common D). b.last_fault x.store h) is.only)) (come.last h);
   count = subst (λ n. (n ≡ b.count c.store) ⊎ CountsOne (b.count c.store) n) (sym (ap (λ (x : Common D). b.count x.store) is.only)) come.count;
+  rest = λ told rest. same_rest b mid.store new.store (ap (λ (x : Common D). x.store) is.only) told (come.rest told rest);
   few = omega arith;
   client = come.client;
   replies = come.replies;
@@ -188,16 +200,35 @@ module _ {D : Type 0} (b : Ghosts D) (script : ScriptValue) (line : Line) (reply
     faults = λ h. subst (λ n. b.faults c.store h ≤ n) (sym (ap (λ (x : Common D). b.faults x.store h) is.noted.only)) (come.faults h);
     last = λ h. subst (λ n. b.last_fault c.store h ≤ n) (sym (ap (λ (x : Common D). b.last_fault x.store h) is.noted.only)) (come.last h);
     count = subst (λ n. (n ≡ b.count c.store) ⊎ CountsOne (b.count c.store) n) (sym (ap (λ (x : Common D). b.count x.store) is.noted.only)) come.count;
+    rest = λ told rest. same_rest b mid.store c'.store (ap (λ (x : Common D). x.store) is.noted.only) told (come.rest told rest);
     few = (let both = length-append es (ending s.client line at_end) in let two = come.few in let short = ending_short s.client line at_end in omega (arith, both, two, short));
     client = ap (λ (x : Course). x.client) is.only ∙ come.client;
     replies = ap (λ (x : Course). x.replies) is.only ∙ ap (λ (r : RepliesValue). record r { items = r.items ++ reply ∷ [] }) come.replies;
     held = ap (λ (x : Course). x.held) is.only ∙ come.held;
     stage = ap (λ (x : Course). x.stage) is.only ∙ come.stage;
+    turns = ap (λ (x : Course). x.turns) is.only;
     drafts = safe_left (b.size c.store) t.drafts s'.drafts at_end drafts_left come.drafts;
   }
 
-pub after_answer : {D : Type 0} (b : Ghosts D) (reply : LineReply) (es : List Entry) (c c' : Common D) (s s' : Course) → HasAnswered b reply es c c' s s' → s.held ≡ 0 → IsAfter reply s s'
-after_answer b reply es c c' s s' is none = record { client = is.client; replies = ap (λ (r : RepliesValue). r.items) is.replies; held = is.held ∙ none; stage = is.stage }
+-- an update that is open as the last line is answered is given up
+closed_by : (script : ScriptValue) (s s' : Course) (old : PoolSet) (n : ℕ) → roots_of old ≡ n → AreLeft old s'.drafts (gives_up script s n) → length s'.replies.items ≡ length s.replies.items + 1
+    → length s.replies.items < length script.lines → line_of script s' ≡ None → drafts_of s' ≡ 0
+closed_by script s s' old zero none left more low last = ap roots_of left ∙ none
+closed_by script s s' old (suc n) some left more low last =
+    let high : length script.lines ≤ length s'.replies.items = none_within script.lines (length s'.replies.items) last in
+    let all : (length s.replies.items + 1 == length script.lines) ≡ true = eq-eqb (length s.replies.items + 1) (length script.lines) (omega (arith, high, low, more)) in
+    (subst (AreLeft old s'.drafts) all left).none
+
+pub after_answer : {D : Type 0} (b : Ghosts D) (script : ScriptValue) (reply : LineReply) (es : List Entry) (c c' : Common D) (s s' : Course) → HasAnswered b reply es c c' s s' → s.held ≡ 0
+    → length s.replies.items < length script.lines → (old : PoolSet) → AreLeft old s'.drafts (gives_up script s (roots_of old)) → IsAfter script reply s s'
+after_answer b script reply es c c' s s' is none low old left = record {
+  client = is.client;
+  replies = ap (λ (r : RepliesValue). r.items) is.replies;
+  held = is.held ∙ none;
+  stage = is.stage;
+  turns = is.turns;
+  closed = closed_by script s s' old (roots_of old) refl left (ap (λ (r : RepliesValue). length r.items) is.replies ∙ length-append s.replies.items (reply ∷ [])) low;
+}
 
 -- ---- updates
 

@@ -24,7 +24,7 @@ use Rattle.ground_model.proofs.Testing.{merged_is_written}
 use Rattle.session.specs.Blocks.{made_of}
 use Rattle.session.specs.Calls.{IsIn, IsLost, StopsBecause}
 use Rattle.session.specs.Links.{TriesToLink}
-use Rattle.session.specs.Own.{IsMerged, IsWritingBy, IsWritingOut}
+use Rattle.session.specs.Own.{IsMergedIn, IsWritingBy, IsWritingOut}
 use Rattle.session.specs.Reads.{stopped_by}
 use Rattle.session.specs.Safe.{object_of, root_of, serial_of, view_of}
 use Rattle.session.specs.Shared.{entries_of}
@@ -46,7 +46,7 @@ some_placed [] x at = absurd cc
 some_placed (y ∷ placed) x at = omega arith
 
 module _ (scripts : Scripts) (scene : Scene) (script : ScriptValue) (s : Course) (flush : Plan) (w : IsWritingOut scripts scene script s flush) where
-  abbrev m : IsMerged scripts scene script s
+  abbrev m : IsMergedIn flush.written scripts scene script s
   m = w.merged
 
   some_held : 0 < s.held
@@ -82,7 +82,7 @@ module _ (scripts : Scripts) (scene : Scene) (script : ScriptValue) (s : Course)
 module _ {D : Type 0} (b : Ghosts D) (laws : b.tells → BlockLaws b) (script : ScriptValue) (c c1 : Common D) (s : Course) (flush : Plan) (top : ℕ) (tested : Result Tas PairFault)
     (t : TriesToLink b script c c1 s flush top tested) where
   module _ (opening : State) (scripts : Scripts) (first : ℕ) (scene : Scene) (is : IsIn b (IsWritingBy flush) script c s opening scripts first scene) where
-    abbrev its : IsMerged scripts scene script s
+    abbrev its : IsMergedIn flush.written scripts scene script s
     its = is.mine.merged
 
     pub unlocked_there : locked_by scene.standing s.client its.work.object ≡ None

@@ -1,14 +1,16 @@
 -- A commit tries to set its link.
-use Rattle.std.proofs.Common.{◌≡◌, ℕ, ◌<◌, List, [], ◌∷◌, Some, None, Result, Err, refl, sym, ap, ◌∙◌, subst, arith, slice_get}
-use Rattle.std.specs.Prelude.{IsErrOf}
+use Rattle.std.proofs.Common.{◌≡◌, ℕ, ◌<◌, List, [], ◌∷◌, Some, None, Result, Ok, Err, refl, sym, ap, ◌∙◌, subst, arith, slice_get}
+use Rattle.std.specs.Prelude.{IsErrOf, OnOk}
 use Rattle.draft_model.specs.Flush.{Placed, block_of}
 use Rattle.drives.specs.declared.device.Half.{Half}
 use Rattle.page_codec.specs.declared.why.Why.{Why}
+use Rattle.pair_store.specs.Answers.{IsSet, LeftAlone}
 use Rattle.pair_store.specs.Blocks.{CountsOne}
 use Rattle.pair_store.specs.Faults.{IsStopped, IsUnread, LaterFaults}
 use Rattle.pair_store.specs.declared.fault.PairFault.{PairFault}
 use Rattle.pair_store.specs.declared.fault.PairFault.TheVariants as pair
 use Rattle.pair_store.specs.declared.outcome.Tas.{Tas}
+use Rattle.pair_store.specs.declared.outcome.Tas.TheVariants.{Set, Taken}
 use Rattle.pair_store.specs.declared.store.Blocks.{Ghosts}
 use Rattle.recovery.specs.Opening.{IsFailed}
 use Rattle.recovery.proofs.Mends.{stopped_unread}
@@ -83,19 +85,27 @@ module _ {D : Type 0} (b : Ghosts D) (old new : D) (n top : ℕ) (tested : Resul
   fails_by h (pair.BothClosed m) is by = absurd cc
   fails_by h (pair.BadPage m why) is by = absurd cc
 
+-- nothing is pending after a try that came to an outcome, where nothing was
+pub tried_rest : {D : Type 0} (b : Ghosts D) (old new : D) (tested : Result Tas PairFault) → (b.tells → IsSet tested → b.rest new) → (b.tells → LeftAlone tested → b.rest old → b.rest new)
+    → b.tells → b.rest old → OnOk tested (b.rest new)
+tried_rest b old new (Ok Set) set kept told was = set told tt
+tried_rest b old new (Ok (Taken by)) set kept told was = kept told tt was
+tried_rest b old new (Err e) set kept told was = tt
+
 -- the try, of a block that is the draft's base
 pub tries_by : {D : Type 0} (b : Ghosts D) (script : ScriptValue) (c : Common D) (d : D) (s : Course) (flush : Plan) (top n : ℕ) (tested : Result Tas PairFault) → IsToLink b script c s flush top
-    → n ≡ root_of s → HasTested b c.store d n top tested → CountsOne (b.count c.store) (b.count d) → LaterFaults (b.faults c.store) (b.faults d) (b.last_fault c.store) (b.last_fault d)
+    → n ≡ root_of s → HasTested b c.store d n top tested → (b.tells → b.rest c.store → OnOk tested (b.rest d)) → CountsOne (b.count c.store) (b.count d) → LaterFaults (b.faults c.store) (b.faults d) (b.last_fault c.store) (b.last_fault d)
     → ((h : Half) (e : PairFault) → tested ≡ Err e → stopped_by e ≡ fault.Drive h
     → IsFailed (b.faults c.store) (b.faults d) (b.last_fault d) (b.moment d) (b.tells → b.settled c.store n → b.content c.store n ≡ None) h)
     → TriesToLink b script c (record c { store = d }) s flush top tested
-tries_by b script c d s flush top n tested ready base test one later failed =
+tries_by b script c d s flush top n tested ready base test rest one later failed =
     record {
       ready = ready;
       tried = record {
         alone = record { only = refl; size = test.size; faults = λ h. (later h).0; last = λ h. (later h).1 };
         one = one;
         test = subst (λ m. HasTested b c.store d m top tested) base test;
+        rest = rest;
         failed = subst (λ m. (h : Half) (e : PairFault) → tested ≡ Err e → stopped_by e ≡ fault.Drive h
             → IsFailed (b.faults c.store) (b.faults d) (b.last_fault d) (b.moment d) (b.tells → b.settled c.store m → b.content c.store m ≡ None) h) base failed;
       };

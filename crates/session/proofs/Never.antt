@@ -19,6 +19,8 @@ never_call b own script c s block why ready lost = record {
   client = refl;
   entries = omega arith;
   lines = refl;
+  counts = tt;
+  rest = tt;
   counted = inl refl;
   stopped = λ h stops. (let other : fault.Bad block why ≡ fault.Drive h = cc stops in absurd (cc other));
   turns = λ told opening scripts first scene at. lost told opening scripts first scene at;

@@ -18,6 +18,7 @@ use Rattle.tree_model.specs.States.{State}
 use Rattle.tree_model.specs.Trees.{Tree}
 use Rattle.store_model.proofs.Edits.{some_is}
 use Rattle.ground_model.specs.Ahead.{IsWalking}
+use Rattle.ground_model.specs.Bounds.{turns_to}
 use Rattle.ground_model.specs.Names.{NamesNext}
 use Rattle.ground_model.specs.Scenes.{Scene, IsShared}
 use Rattle.ground_model.specs.Shows.{ShowsVersion}
@@ -27,11 +28,11 @@ use Rattle.ground_model.proofs.Naming.{commit_names, unlocked_is_unlinked}
 use Rattle.ground_model.proofs.Shows.{base_shows}
 use Rattle.session.specs.Calls.{IsIn, IsReady, IsWorkOf, TurnCall}
 use Rattle.session.specs.Ends.{TurnGoes}
-use Rattle.session.specs.Own.{IsBehind, IsMerged, IsNaming, IsNamingAt, IsWalkingOn}
+use Rattle.session.specs.Own.{IsBehind, IsMerged, IsMergedIn, IsNaming, IsNamingAt, IsWalkingOn}
 use Rattle.session.specs.Reads.{IsVersionOf, ReadCall}
 use Rattle.session.specs.Safe.{AreSafeDrafts, HasDraftIn, IsSafe, IsSafeStage, drafts_of, root_of, serial_of, view_of}
 use Rattle.session.specs.Shared.{RunStands}
-use Rattle.session.specs.Values.{RepliesValue}
+use Rattle.session.specs.Values.{RepliesValue, one_more}
 use Rattle.session.specs.Walks.{BeginsWalk, FollowsNot, HasBegun}
 use Rattle.session.specs.declared.common.Common.{Common}
 use Rattle.session.specs.declared.course.Course.{Course}
@@ -42,6 +43,7 @@ use Rattle.session.specs.declared.turned.Fault.TheVariants as fault
 use Rattle.session.specs.declared.turned.Turned.{Turned}
 use Rattle.session.specs.declared.turned.Turned.TheVariants as turned
 use Rattle.session.proofs.BlockLaws.{BlockLaws}
+use Rattle.session.proofs.Counting.{one_more_low}
 use Rattle.session.proofs.Deciding.{is_on, run_sound}
 use Rattle.session.proofs.WalkReads.{AreShown, Shown, failed_call, given_is, lost_read, place_shown, went_call, within_store}
 use Rattle.session.proofs.Walking.{KeepsCommit, committing_then, under_way_goes}
@@ -70,11 +72,11 @@ read_is b opening scripts first scene c object serial n st shows shown version g
     ok_same (version_of shown.bytes) version shows.page gives (ap version_of same ∙ shows.reads)
 
 -- the course with its next stage
-abbrev pub at_stage : Course → Stage → ℕ → Course
-at_stage s stage turns = record s { stage = stage; turns = turns }
+abbrev pub at_stage : Course → Stage → Course
+at_stage s stage = record s { stage = stage; turns = one_more s.turns }
 
-same_commit : (s : Course) (stage : Stage) (turns : ℕ) → drafts_of s ≡ 1 → KeepsCommit s (at_stage s stage turns)
-same_commit s stage turns one = record { client = refl; replies = refl; rights = refl; held = refl; one = one; count = refl; object = refl }
+same_commit : (s : Course) (stage : Stage) → drafts_of s ≡ 1 → KeepsCommit s (at_stage s stage)
+same_commit s stage one = record { client = refl; replies = refl; rights = refl; held = refl; one = one; count = refl; object = refl }
 
 -- ---- the page of the draft's base
 
@@ -106,19 +108,19 @@ module _ {D : Type 0} (b : Ghosts D) (script : ScriptValue) (c c' : Common D) (s
         m.merged.base shows.held)
 
     -- it names the next version
-    pub next_named : HasDraftIn (b.size c.store) s → (next turns : ℕ) → version.commit ≡ Some next → TurnCall b IsBehind script c c' s (at_stage s (stage.Naming next) turns) turned.Again
-    next_named draft next turns names =
-        went_call b IsVersionOf IsBehind script c c' s (root_of s) result laws ready read base_shown version was (at_stage s (stage.Naming next) turns) safe refl refl refl goes turned.Again (inl refl)
+    pub next_named : HasDraftIn (b.size c.store) s → (next : ℕ) → version.commit ≡ Some next → TurnCall b IsBehind script c c' s (at_stage s (stage.Naming next)) turned.Again
+    next_named draft next names =
+        went_call b IsVersionOf IsBehind script c c' s (root_of s) result laws ready read base_shown version was (at_stage s (stage.Naming next)) safe refl refl refl refl goes turned.Again (inl refl)
       where
-        safe : IsSafe (b.size c.store) c.map script (at_stage s (stage.Naming next) turns)
+        safe : IsSafe (b.size c.store) c.map script (at_stage s (stage.Naming next))
         safe = record { lines = ready.safe.lines; room = ready.safe.room; held = ready.safe.held; drafts = ready.safe.drafts; stage = draft.one }
 
         goes : b.tells → (opening : State) (scripts : Scripts) (first : ℕ) (scene : Scene) → IsIn b IsBehind script c s opening scripts first scene
-            → TurnGoes b opening scripts first scene c c' script (at_stage s (stage.Naming next) turns)
+            → TurnGoes b opening scripts first scene c c' script (at_stage s (stage.Naming next))
         goes told opening scripts first scene is =
             let m : IsMerged scripts scene script s = is.mine.open_to.merged in
             let there = (named_by told opening scripts first scene is).some next names in
-            under_way_goes b (laws told) opening scripts first scene c c' script (at_stage s (stage.Naming next) turns) is.stands read.alone (read.read told)
+            under_way_goes b (laws told) opening scripts first scene c c' script (at_stage s (stage.Naming next)) is.stands read.alone (read.read told)
             (inl (
               next,
               refl,
@@ -127,8 +129,9 @@ module _ {D : Type 0} (b : Ghosts D) (script : ScriptValue) (c c' : Common D) (s
                   update = m.update;
                   work = m.work;
                   tree = m.tree;
-                  committing = committing_then scripts scene script s (at_stage s (stage.Naming next) turns) m.update m.work (same_commit s (stage.Naming next) turns draft.one) m.committing;
+                  committing = committing_then scripts scene script s (at_stage s (stage.Naming next)) m.update m.work (same_commit s (stage.Naming next) draft.one) m.committing;
                   merged = m.merged;
+                  turns = (let low = m.turns in let one = one_more_low s.turns in omega (arith, low, one));
                 };
                 later = is.mine.later;
                 tree = there.tree;
@@ -147,10 +150,10 @@ module _ {D : Type 0} (b : Ghosts D) (script : ScriptValue) (c c' : Common D) (s
 
     -- as the code does it
     pub find_named : HasDraftIn (b.size c.store) s → (next : ℕ) → version.commit ≡ Some next → (s' : Course) (answer : Turned)
-        → s' ≡ record s { stage = stage.Naming next; turns = s'.turns } → answer ≡ turned.Again → TurnCall b IsBehind script c c' s s' answer
+        → s' ≡ at_stage s (stage.Naming next) → answer ≡ turned.Again → TurnCall b IsBehind script c c' s s' answer
     find_named draft next names s' answer course again =
         subst (λ (x : Course). TurnCall b IsBehind script c c' s x answer) (sym course)
-        (subst (λ (r : Turned). TurnCall b IsBehind script c c' s (at_stage s (stage.Naming next) s'.turns) r) (sym again) (next_named draft next s'.turns names))
+        (subst (λ (r : Turned). TurnCall b IsBehind script c c' s (at_stage s (stage.Naming next)) r) (sym again) (next_named draft next names))
 
 -- the block of the draft's base
 pub root_here : (s : Course) (size root : ℕ) → HasDraftIn size s → root ≡ root_in (base_at s.drafts (picked_of s.drafts)) → root ≡ root_of s
@@ -180,7 +183,7 @@ module _ {D : Type 0} (b : Ghosts D) (script : ScriptValue) (c c' : Common D) (s
     ahead_by : b.tells → (opening : State) (scripts : Scripts) (first : ℕ) (scene : Scene) → (is : IsIn b (IsNamingAt next) script c s opening scripts first scene)
         → ReadAhead scene is.mine.merged.work (serial_of s) (root_of s) is.mine.merged.tree version
     ahead_by told opening scripts first scene is =
-        let m : IsMerged scripts scene script s = is.mine.merged in
+        let m : IsMergedIn (1 + s.held) scripts scene script s = is.mine.merged in
         let shows = next_page scene scripts is.stands.stands.shared is.mine in
         let shown = next_shown told opening scripts first scene is in
         let same : version ≡ shows.page = read_is b opening scripts first scene c m.work.object (serial_of s + 1) next is.stands shows shown version
@@ -200,7 +203,7 @@ module _ {D : Type 0} (b : Ghosts D) (script : ScriptValue) (c c' : Common D) (s
         subst (λ (r : Turned). TurnCall b (IsNamingAt next) script c c' s s r) (sym not.answer)
         (lost_read b IsVersionOf (IsNamingAt next) script c c' s next result laws ready read next_shown version was
         (λ told opening scripts first scene is.
-        let m : IsMerged scripts scene script s = is.mine.merged in
+        let m : IsMergedIn (1 + s.held) scripts scene script s = is.mine.merged in
         let there = ahead_by told opening scripts first scene is in
         let some = writes_have_steps m.update m.work m.committing.plain.works m.committing.writes in
         let count = m.committing.plain.count in
@@ -219,6 +222,9 @@ module _ {D : Type 0} (b : Ghosts D) (script : ScriptValue) (c c' : Common D) (s
         object = begun.object;
       }
 
+      turns_is : s'.turns ≡ one_more s.turns
+      turns_is = ap (λ (x : Course). x.turns) begun.only
+
       stage_is : s'.stage ≡ stage.Walking begun.walk
       stage_is = ap (λ (x : Course). x.stage) begun.only
 
@@ -235,7 +241,7 @@ module _ {D : Type 0} (b : Ghosts D) (script : ScriptValue) (c c' : Common D) (s
       walks : b.tells → (opening : State) (scripts : Scripts) (first : ℕ) (scene : Scene) → (is : IsIn b (IsNamingAt next) script c s opening scripts first scene)
           → IsWalkingOn scripts scene script s' begun.walk
       walks told opening scripts first scene is =
-          let m : IsMerged scripts scene script s = is.mine.merged in
+          let m : IsMergedIn (1 + s.held) scripts scene script s = is.mine.merged in
           let there = ahead_by told opening scripts first scene is in
           record {
             update = m.update;
@@ -251,11 +257,16 @@ module _ {D : Type 0} (b : Ghosts D) (script : ScriptValue) (c c' : Common D) (s
                 (walk_begins scene m.work (serial_of s) (root_of s) m.tree (view_of s) (view_of s') next there.made version begun.walk m.merged there.ahead
                 (writes_have_steps m.update m.work m.committing.plain.works m.committing.writes) begun.starts);
             serial = begun.serial ∙ there.ahead.page_serial;
+            turns =
+                let low = m.turns in
+                let one = one_more_low s.turns in
+                let is = turns_is in
+                subst (λ h. s'.turns ≤ turns_to scene.standing.made h m.work (serial_of s) + (1 + h) + 1) (sym course_is.held) (omega (arith, low, one, is));
           }
 
       pub begins_call : TurnCall b (IsNamingAt next) script c c' s s' answer
       begins_call =
-          went_call b IsVersionOf (IsNamingAt next) script c c' s next result laws ready read next_shown version was s' safe course_is.client course_is.replies course_is.held
+          went_call b IsVersionOf (IsNamingAt next) script c c' s next result laws ready read next_shown version was s' safe course_is.client course_is.replies course_is.held turns_is
           (λ told opening scripts first scene is.
           under_way_goes b (laws told) opening scripts first scene c c' script s' is.stands read.alone (read.read told)
           (inr (begun.walk, stage_is, walks told opening scripts first scene is)))

@@ -218,7 +218,7 @@ module _ {D : Type 0} (b : Ghosts D) (script : ScriptValue) (c mid noted c' : Co
       }
 
       come : HasCome b (in_line s.client line (Began (base_of version ∷ [])) ∷ []) c noted s then
-      come = come_noted b (in_line s.client line (Began (base_of version ∷ []))) c mid noted s then (come_read b c mid s then read.alone read.one may) note
+      come = come_noted b (in_line s.client line (Began (base_of version ∷ []))) c mid noted s then (come_read b c mid s then read.alone read.one read.rest may) note
 
       same_store : c'.store ≡ mid.store
       same_store = ap (λ (x : Common D). x.store) is.noted.only ∙ ap (λ (x : Common D). x.store) note.only

@@ -38,6 +38,7 @@ use Rattle.session.specs.declared.stage.Stage.TheVariants as stage
 use Rattle.session.specs.declared.turned.Turned.{Turned}
 use Rattle.session.specs.declared.turned.Turned.TheVariants as turned
 use Rattle.session.proofs.BlockLaws.{BlockLaws}
+use Rattle.session.proofs.Counting.{same_rest}
 use Rattle.session.proofs.Going.{SharesOn, goes_line, seated_on, turn_goes}
 
 -- ---- what the code did
@@ -171,6 +172,8 @@ module _ {D : Type 0} (b : Ghosts D) (script : ScriptValue) (line : Line) (said 
         client = client_same;
         entries = room_then;
         lines = (line, reply, over.next, refl, ap (λ (x : Course). x.replies) over.course);
+        counts = (ap (λ (x : Course). x.turns) over.course, resting);
+        rest = same_rest b c.store c'.store same_store;
         counted = inl (ap b.count same_store);
         stopped = λ h e. absurd (cc e);
         turns = goes;
@@ -220,6 +223,8 @@ module _ {D : Type 0} (b : Ghosts D) (script : ScriptValue) (line : Line) (said 
       held = ap (λ (x : Client). x.held) own_now ∙ ends.none;
       none = ap (λ (x : Course). x.held) over.course ∙ ends.held;
       update = subst (OwnsUpdate (moved_to scene (b.content c'.store) states standing) script s') (sym (ap (λ (x : Client). x.update) own_now ∙ ends.no_update)) over.drafts.none;
+      closed = λ last. over.drafts.none;
+      turns = (let none : s'.turns ≡ 0 = ap (λ (x : Course). x.turns) over.course in omega (arith, none));
     }
 
     of_client : AreOf scripts scene.standing s.client es

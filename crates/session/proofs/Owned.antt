@@ -41,6 +41,8 @@ module _ {D : Type 0} (b : Ghosts D) (own mine : Own) (script : ScriptValue) (c 
     client = call.client;
     entries = call.entries;
     lines = call.lines;
+    counts = call.counts;
+    rest = call.rest;
     counted = call.counted;
     stopped = stops_too;
     turns = λ told opening scripts first scene is. call.turns told opening scripts first scene (record { stands = is.stands; mine = owns told opening scripts first scene is });
@@ -56,6 +58,8 @@ lost_call b own script c s block why ready lost = record {
   client = refl;
   entries = omega arith;
   lines = refl;
+  counts = tt;
+  rest = tt;
   counted = inl refl;
   stopped = λ h is. (let wrong : fault.Bad block why ≡ fault.Drive h = stopped_is (fault.Bad block why) (fault.Drive h) is in absurd cc);
   turns = λ told opening scripts first scene is. lost told opening scripts first scene is;

@@ -1,5 +1,5 @@
 -- A commit that holds its blocks plans which page goes into which.
-use Rattle.std.proofs.Common.{◌≡◌, ◌≢◌, ℕ, ◌+◌, ◌<◌, ◌^◌, true, List, [], length, sym, ap, ◌∙◌, subst}
+use Rattle.std.proofs.Common.{◌≡◌, ◌≢◌, ℕ, ◌+◌, ◌<◌, ◌^◌, true, List, [], length, sym, ap, ◌∙◌, subst, arith}
 use Rattle.std.proofs.lemmas.List.{length-map}
 use Rattle.std.proofs.lemmas.Option.{get_or_from_slice_get, slice_get_within}
 use Rattle.block_map.specs.States.{state_at}
@@ -19,7 +19,7 @@ use Rattle.version_chain.specs.Flush.{AreHeld, Plan, StartsAtRoot, paths_of}
 use Rattle.ground_model.proofs.Writing.{flush_begins}
 use Rattle.session.specs.Blocks.{IsNeeded}
 use Rattle.session.specs.Calls.{IsLost, IsReady, TurnCall}
-use Rattle.session.specs.Own.{IsHolding, IsWritingBy}
+use Rattle.session.specs.Own.{IsHolding, IsMergedIn, IsWritingBy}
 use Rattle.session.specs.Safe.{IsSafeFlush, drafts_of, serial_of, view_of}
 use Rattle.session.specs.declared.common.Common.{Common}
 use Rattle.session.specs.declared.course.Course.{Course}
@@ -70,12 +70,13 @@ module _ {D : Type 0} (b : Ghosts D) (script : ScriptValue) (c : Common D) (s : 
         → TurnCall b IsHolding script c c' s s' result
     planned_call all c' s' result call =
         own_call b IsHolding (IsWritingBy flush) script c c' s s' result (λ told opening scripts first scene is. record {
-          merged = is.mine.deciding.open_to.merged;
+          merged = subst (λ n. IsMergedIn n scripts scene script s) (sym p.start) is.mine.deciding.open_to.merged;
           flushing =
               flush_begins scene s.client (view_of s) _ flush placed_is p.apart
               (λ i x at. subst (λ (states : List BlockState). state_at states x.block ≡ Held s.client) is.stands.map (get_or_from_slice_get c.map x.block (Held s.client) _ (p.blocks i x at).0)) p.start;
           top = p.top;
           alone = p.members;
+          within = (let start = p.start in omega (arith, start));
           number = sym all ∙ need_is ∙ sym (ap length p.paths) ∙ length-map flush.placed (λ (x : Placed). x.path);
           unworn = is.mine.unworn;
         }) call

@@ -19,12 +19,13 @@ use Rattle.session.specs.Ends.{StopsBy}
 use Rattle.session.specs.Reads.{ReadCall, StoreAlone}
 use Rattle.session.specs.Safe.{AreSafeDrafts, IsSafe, IsSafeStage, IsSafeStore, drafts_of, entries_left, noted_for}
 use Rattle.session.specs.Shared.{RunStands, entries_of, room_of}
-use Rattle.session.specs.Values.{RepliesValue}
+use Rattle.session.specs.Values.{RepliesValue, one_more}
 use Rattle.session.specs.declared.common.Common.{Common}
 use Rattle.session.specs.declared.course.Course.{Course}
 use Rattle.session.specs.declared.turned.Fault.{Fault}
 use Rattle.session.specs.declared.turned.Fault.TheVariants as fault
 use Rattle.session.specs.declared.turned.Turned.TheVariants as turned
+use Rattle.session.proofs.Calling.{stops_here}
 
 -- The block is one of the store in the scene, and what it holds gives something.
 pub record IsKnown {T : Type 0} (Gives : List ℕ → T → Type 0) (scene : Scene) (n : ℕ) : Type 0 where
@@ -101,12 +102,13 @@ module _ {D T : Type 0} (b : Ghosts D) (Gives : List ℕ → T → Type 0) (c c'
           here.bytes here.value (held_now b opening scripts first scene c at.stands n here.bytes here.holds) here.gives
 
       stops : (b.tells → ReadStops b) → b.tells → (opening : State) (scripts : Scripts) (first : ℕ) (scene : Scene) → IsIn b own script c s opening scripts first scene
-          → StopsBy b opening scripts first c' e
+          → StopsBy b opening scripts first scene c c' s.client e
       stops law told opening scripts first scene at =
           let half = half_failed told opening scripts first scene at in
-          subst (StopsBy b opening scripts first c') (sym half.1)
+          subst (StopsBy b opening scripts first scene c c' s.client) (sym half.1)
+          (stops_here b opening scripts first scene c c' s.client (ap (λ (x : Common D). entries_of x) read.alone.only)
           (subst (λ (j : Journal). HasStopped b opening scripts first c'.store j) (ap (λ (x : Common D). x.log.journal) (sym read.alone.only))
-          (law told opening scripts first scene c.store c'.store c.log.journal at.stands.stands at.stands.sure (read.read told)))
+          (law told opening scripts first scene c.store c'.store c.log.journal at.stands.stands at.stands.sure (read.read told))))
 
       pub read_stopped : (b.tells → ReadStops b) → TurnCall b own script c c' s s (turned.Stopped e)
       read_stopped law = record {
@@ -116,6 +118,8 @@ module _ {D T : Type 0} (b : Ghosts D) (Gives : List ℕ → T → Type 0) (c c'
         client = refl;
         entries = (let same = ap (λ (x : Common D). length (entries_of x)) read.alone.only in omega (arith, same));
         lines = refl;
+        counts = tt;
+        rest = tt;
         counted = read.most;
         stopped = λ h is. failed h (read.failed h (let same : e ≡ fault.Drive h = cc in ap Err same));
         turns = stops law;
@@ -127,6 +131,8 @@ module _ {D T : Type 0} (b : Ghosts D) (Gives : List ℕ → T → Type 0) (c c'
 pub record GoesReading {D : Type 0} (b : Ghosts D) (c c' : Common D) (s s' : Course) : Type 0 where
   pub alone : StoreAlone b c c'
   pub one : CountsOne (b.count c.store) (b.count c'.store)
+  pub rest : b.tells → b.rest c.store → b.rest c'.store
+  pub turns : s'.turns ≡ one_more s.turns
   pub client : s'.client ≡ s.client
   pub replies : s'.replies ≡ s.replies
   pub held : s'.held ≡ s.held
@@ -172,6 +178,8 @@ module _ {D : Type 0} (b : Ghosts D) (c c' : Common D) (script : ScriptValue) (s
     client = is.client;
     entries = same_left;
     lines = is.replies;
+    counts = is.turns;
+    rest = is.rest;
     counted = is.one;
     stopped = λ h stops. absurd (cc stops);
     turns = turns;

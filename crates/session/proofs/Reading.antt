@@ -13,6 +13,7 @@ unread b Gives c c' n e read = record {
   one = tt;
   most = read.most;
   read = read.read;
+  rest = read.rest;
   gives = λ told settled bytes is. tt;
   good = λ told settled low bytes x is gives. read.good told settled low bytes tt is tt;
   failed = λ h is. read.failed h (let same : e ≡ Drive h = cc in cc);

@@ -12,9 +12,9 @@ use Rattle.service_model.specs.Standing.{Scripts, Update, Work, client_of}
 use Rattle.tree_model.specs.States.{State}
 use Rattle.version_chain.specs.Flush.{Plan}
 use Rattle.session.specs.Built.{AreBuilt, IsBuilt, is_built}
-use Rattle.session.specs.Calls.{AnswersLine, IsIn, IsLost, IsReady, Own, TurnCall}
+use Rattle.session.specs.Calls.{AnswersLine, CountsTurn, IsIn, IsLost, IsReady, Own, TurnCall}
 use Rattle.session.specs.Ends.{TurnEnds}
-use Rattle.session.specs.Own.{IsAtRest, IsCommittingOf, HasFed, IsMerged, IsNaming, IsNamingAt, IsOwn, IsPlain, IsSeated, IsWalkingBy, IsWalkingOn, IsWritingBy, IsWritingOut, OwnsStage, OwnsUpdate}
+use Rattle.session.specs.Own.{IsAtRest, IsCommittingOf, HasFed, IsMergedIn, IsNaming, IsNamingAt, IsOwn, IsPlain, IsSeated, IsWalkingBy, IsWalkingOn, IsWritingBy, IsWritingOut, OwnsStage, OwnsUpdate}
 use Rattle.session.specs.Safe.{IsSafe, IsSafeStage, IsSafeStore, entries_left}
 use Rattle.session.specs.Shared.{entries_of, room_of}
 use Rattle.session.specs.declared.common.Common.{Common}
@@ -65,6 +65,8 @@ module _ (scripts : Scripts) (scene : Scene) (script : ScriptValue) (s : Course)
     held = h.held;
     none = h.none;
     update = updating (client_of scene.standing s.client).update h.update;
+    closed = h.closed;
+    turns = h.turns;
   }
 
   committing : (u : Update) (w : Work) → IsCommittingOf scripts scene script s u w → IsCommittingOf scripts scene script (with_stage s d) u w
@@ -80,17 +82,18 @@ module _ (scripts : Scripts) (scene : Scene) (script : ScriptValue) (s : Course)
     held = h.held;
   }
 
-  abbrev merging : IsMerged scripts scene script s → IsMerged scripts scene script (with_stage s d)
-  merging h = record {
+  abbrev merging : (more : ℕ) → IsMergedIn more scripts scene script s → IsMergedIn more scripts scene script (with_stage s d)
+  merging more h = record {
     update = h.update;
     work = h.work;
     tree = h.tree;
     committing = committing h.update h.work h.committing;
     merged = h.merged;
+    turns = h.turns;
   }
 
   pub naming_own : (next : ℕ) → IsNaming scripts scene script s next → IsNamingAt next scripts scene script (with_stage s d)
-  naming_own next h = record { merged = merging h.merged; later = h.later; tree = h.tree; base = h.base }
+  naming_own next h = record { merged = merging (1 + s.held) h.merged; later = h.later; tree = h.tree; base = h.base }
 
   pub walking_own : (walk : WalkValue) → IsWalkingOn scripts scene script s walk → IsWalkingBy walk scripts scene script (with_stage s d)
   walking_own walk h = record {
@@ -105,15 +108,17 @@ module _ (scripts : Scripts) (scene : Scene) (script : ScriptValue) (s : Course)
     fed = h.fed;
     walking = h.walking;
     serial = h.serial;
+    turns = h.turns;
   }
 
   pub writing_own : (flush : Plan) → IsWritingOut scripts scene script s flush → IsWritingBy flush scripts scene script (with_stage s d)
   writing_own flush h = record {
-    merged = merging h.merged;
+    merged = merging flush.written h.merged;
     flushing = h.flushing;
     top = h.top;
     alone = h.alone;
     number = h.number;
+    within = h.within;
     unworn = h.unworn;
   }
 
@@ -151,6 +156,13 @@ module _ {D : Type 0} (b : Ghosts D) (own : Own) (script : ScriptValue) (c c' : 
   lines_are Finished h = absurd (let all = h.0 in omega (arith, all))
   lines_are (Stopped fault) h = h
 
+  counts_are : (result : Turned) → CountsTurn (with_stage s d) s' result → CountsTurn s s' result
+  counts_are (Line n) h = h
+  counts_are Again h = h
+  counts_are (Waits job) h = h
+  counts_are Finished h = h
+  counts_are (Stopped fault) h = h
+
   ends_are : (opening : State) (scripts : Scripts) (first : ℕ) (scene : Scene) (result : Turned) → AnswersLine script (with_stage s d) s' result
       → TurnEnds b opening scripts first scene c c' script (with_stage s d) s' result → TurnEnds b opening scripts first scene c c' script s s' result
   ends_are opening scripts first scene (Line n) h e = e
@@ -173,6 +185,8 @@ module _ {D : Type 0} (b : Ghosts D) (own : Own) (script : ScriptValue) (c c' : 
     client = t.client;
     entries = t.entries;
     lines = lines_are result t.lines;
+    counts = counts_are result t.counts;
+    rest = t.rest;
     counted = t.counted;
     stopped = λ h is. let failed = t.stopped h is in record {
       failed = failed.failed;

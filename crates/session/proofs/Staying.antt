@@ -6,7 +6,7 @@ use Rattle.block_map.specs.declared.states.BlockState.{BlockState}
 use Rattle.draft_model.specs.Views.{View}
 use Rattle.script_text.specs.ScriptValue.{ScriptValue}
 use Rattle.service_model.specs.Entries.{after_entries}
-use Rattle.service_model.specs.Standing.{Scripts, Standing, Client, Update, Work, client_of, has_locked, locked_by, newcomer, serial_of as last_serial}
+use Rattle.service_model.specs.Standing.{Scripts, Standing, Client, Made, Update, Work, client_of, has_locked, locked_by, newcomer, serial_of as last_serial}
 use Rattle.service_model.specs.declared.journal.Entry.{Entry}
 use Rattle.service_model.proofs.Causes.{none_has}
 use Rattle.service_model.proofs.Journals.{apart, set_other}
@@ -15,6 +15,7 @@ use Rattle.super_files.specs.declared.locks.Lock.{Lock}
 use Rattle.store_changes.specs.Writes.{Content}
 use Rattle.tree_model.specs.States.{State}
 use Rattle.tree_model.specs.Trees.{Tree}
+use Rattle.ground_model.specs.Bounds.{turns_to}
 use Rattle.ground_model.specs.Laws.{Leads}
 use Rattle.ground_model.specs.Lines.{Notes}
 use Rattle.ground_model.specs.Own.{HasMerged}
@@ -22,7 +23,7 @@ use Rattle.ground_model.specs.Scenes.{Scene}
 use Rattle.ground_model.specs.Steps.{moved_to}
 use Rattle.ground_model.proofs.Ahead.{merged_stays_own}
 use Rattle.ground_model.proofs.Lines.{became}
-use Rattle.session.specs.Own.{IsCommittingOf, IsDeciding, IsMerged, IsTaken}
+use Rattle.session.specs.Own.{IsCommittingOf, IsDeciding, IsMergedIn, IsTaken}
 use Rattle.session.specs.Safe.{serial_of, view_of}
 use Rattle.session.specs.Shared.{AreLocksIn}
 use Rattle.session.specs.declared.course.Course.{Course}
@@ -94,27 +95,35 @@ module _ (scripts : Scripts) (scene : Scene) (script : ScriptValue) (s : Course)
 
 -- so it stays merged, and so it decides, where the client keeps its update
 module _ (scripts : Scripts) (scene : Scene) (script : ScriptValue) (s : Course) (content : Content) (states : List BlockState) (es : List Entry) (cl : Client)
-    (held : ℕ) (stage : Stage) (turns : ℕ) (m : IsMerged scripts scene script s) (notes : Notes scripts scene.standing s.client es cl)
+    (held : ℕ) (stage : Stage) (turns more after_more : ℕ) (m : IsMergedIn more scripts scene script s) (notes : Notes scripts scene.standing s.client es cl)
     (leads : Leads s.client scene (moved_to scene content states (after_entries scripts scene.standing es)))
-    (is_open : cl.update ≡ Some m.update) (answers : cl.answers ≡ s.replies.items) (taken : IsTaken held m.update cl.noted) (holds : cl.held ≡ held) where
+    (is_open : cl.update ≡ Some m.update) (answers : cl.answers ≡ s.replies.items) (taken : IsTaken held m.update cl.noted) (holds : cl.held ≡ held)
+    (fits : turns ≤ turns_to scene.standing.made held m.work (serial_of s) + after_more) where
   abbrev later : Scene
   later = moved_to scene content states (after_entries scripts scene.standing es)
 
-  unfoldable pub still_merged : IsMerged scripts later script (course_with s held stage turns)
+  unfoldable pub still_merged : IsMergedIn after_more scripts later script (course_with s held stage turns)
   still_merged = record {
     update = m.update;
     work = m.work;
     tree = m.tree;
     committing = committing_on scripts scene script s content states es cl m.update m.work m.committing notes leads held stage turns is_open answers taken holds;
     merged = merged_on scripts scene script s content states es cl m.update m.work m.committing notes leads (serial_of s) _ m.tree (view_of s) m.merged;
+    turns = subst (λ (made : List Made). turns ≤ turns_to made held m.work (serial_of s) + after_more) (sym notes.becomes.made) fits;
   }
 
+-- so it decides, where it had no more turns than the versions take
+module _ (scripts : Scripts) (scene : Scene) (script : ScriptValue) (s : Course) (content : Content) (states : List BlockState) (es : List Entry) (cl : Client)
+    (held : ℕ) (stage : Stage) (turns more : ℕ) (m : IsMergedIn more scripts scene script s) (notes : Notes scripts scene.standing s.client es cl)
+    (leads : Leads s.client scene (moved_to scene content states (after_entries scripts scene.standing es)))
+    (is_open : cl.update ≡ Some m.update) (answers : cl.answers ≡ s.replies.items) (taken : IsTaken held m.update cl.noted) (holds : cl.held ≡ held)
+    (fits : turns ≤ turns_to scene.standing.made held m.work (serial_of s) + 0) where
   pub still_deciding : locked_by scene.standing s.client m.work.object ≡ None → serial_of s ≡ last_serial scene.standing.state m.work.object
-      → IsDeciding scripts later script (course_with s held stage turns)
+      → IsDeciding scripts (moved_to scene content states (after_entries scripts scene.standing es)) script (course_with s held stage turns)
   unfolding still_merged
   still_deciding unlocked last = record {
     open_to = record {
-      merged = still_merged;
+      merged = still_merged scripts scene script s content states es cl held stage turns more 0 m notes leads is_open answers taken holds fits;
       unlocked = unlocked_on scripts scene script s content states es cl m.update m.work m.committing notes leads m.work.object unlocked;
     };
     last = last ∙ serial_on scripts scene script s content states es cl m.update m.work m.committing notes leads m.work.object;

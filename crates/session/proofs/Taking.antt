@@ -47,12 +47,12 @@ module _ {D : Type 0} (b : Ghosts D) (script : ScriptValue) (c : Common D) (s : 
       own_call b IsDeciding IsHolding script c c' s s' result
       (λ told opening scripts first scene here. record { deciding = here.mine; unworn = low_serial low; some = some }) call
 
-  pub taken_call : serial < 2 ^ 64 - 1 → (mid : Common D) (t : Course) → MoveCall b IsUnworn IsHolding script c mid s t → TurnCall b IsHolding script mid c' t s' result
+  pub taken_call : serial < 2 ^ 64 - 1 → (mid : Common D) (t : Course) → MoveCall b IsUnworn IsHolding script c mid s t → t.turns ≡ s.turns → TurnCall b IsHolding script mid c' t s' result
       → TurnCall b IsDeciding script c c' s s' result
-  taken_call low mid t move call =
+  taken_call low mid t move turns call =
       own_call b IsDeciding IsUnworn script c c' s s' result
       (λ told opening scripts first scene here. record { deciding = here.mine; unworn = low_serial low })
-      (moved_call b IsUnworn IsHolding script c mid c' s t s' result ready.line move call)
+      (moved_call b IsUnworn IsHolding script c mid c' s t s' result ready.line move call turns)
 
   -- too few blocks are free
   pub space_call : serial < 2 ^ 64 - 1 → s.held ≡ 0 → (needed blocks : ℕ) → IsNeeded s needed → blocks ≡ free_count c.map → blocks < needed

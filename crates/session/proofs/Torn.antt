@@ -38,12 +38,13 @@ use Rattle.session.proofs.BlockLaws.{BlockLaws}
 use Rattle.session.proofs.Deciding.{line_here, of_line}
 use Rattle.session.proofs.Linked.{came_there, made_is, may_commit, tried_because, unlocked_there, written_is}
 use Rattle.session.proofs.Numbers.{SameShared, alone_entries, alone_log, alone_same, same_numbers, same_room, same_store, still_safe}
+use Rattle.session.proofs.Calling.{stops_here}
 
 -- a turn that stops the run, and leaves all numbers
 pub stopped_call : {D : Type 0} (b : Ghosts D) (script : ScriptValue) (c c' : Common D) (s : Course) (flush : Plan) (e : PairFault) → SameShared b c c'
     → IsReady b script c s → CountsOne (b.count c.store) (b.count c'.store) → StopsBecause b (IsWritingBy flush) script c c' s (turned.Stopped (stopped_by e))
     → (b.tells → (opening : State) (scripts : Scripts) (first : ℕ) (scene : Scene) → IsIn b (IsWritingBy flush) script c s opening scripts first scene
-    → StopsBy b opening scripts first c' (stopped_by e))
+    → StopsBy b opening scripts first scene c c' s.client (stopped_by e))
     → TurnCall b (IsWritingBy flush) script c c' s s (turned.Stopped (stopped_by e))
 stopped_call b script c c' s flush e same ready one because stops = record {
   store = same_store b script c c' s same ready.store;
@@ -52,6 +53,8 @@ stopped_call b script c c' s flush e same ready one because stops = record {
   client = refl;
   entries = same_room b script c c' s same;
   lines = refl;
+  counts = tt;
+  rest = tt;
   counted = inr one;
   stopped = because;
   turns = stops;
@@ -67,7 +70,7 @@ module _ {D : Type 0} (b : Ghosts D) (laws : b.tells → BlockLaws b) (script : 
         subst (λ (es : List Entry). Stands b opening scripts first scene c.store es) (sym (alone_entries b c c1 t.tried.alone)) st
 
     no_write : ((h : Half) → e ≡ pair.WriteFault h → ⊥) → b.tells → (opening : State) (scripts : Scripts) (first : ℕ) (scene : Scene)
-        → IsIn b (IsWritingBy flush) script c s opening scripts first scene → StopsBy b opening scripts first c1 (stopped_by e)
+        → IsIn b (IsWritingBy flush) script c s opening scripts first scene → StopsBy b opening scripts first scene c c1 s.client (stopped_by e)
     no_write never told opening scripts first scene is =
         by e (λ h is. never h is) (came_there b laws script c c1 s flush top (Err e) t opening scripts first scene is told)
       where
@@ -76,10 +79,10 @@ module _ {D : Type 0} (b : Ghosts D) (laws : b.tells → BlockLaws b) (script : 
 
         by : (x : PairFault) → ((h : Half) → x ≡ pair.WriteFault h → ⊥)
             → LinkCame b scene c.store c1.store is.mine.merged.work.object (serial_of s) (root_of s) top (Err x)
-            → StopsBy b opening scripts first c1 (stopped_by x)
+            → StopsBy b opening scripts first scene c c1 s.client (stopped_by x)
         by (pair.ReadFault h) off read =
-            (laws told).reads opening scripts first scene c.store c1.store c1.log.journal (stands_still opening scripts first scene is.stands.stands)
-            (ap (λ (l : Log). l.journal.doubt) (alone_log b c c1 t.tried.alone) ∙ is.stands.sure) read
+            stops_here b opening scripts first scene c c1 s.client (alone_entries b c c1 t.tried.alone) ((laws told).reads opening scripts first scene c.store c1.store c1.log.journal (stands_still opening scripts first scene is.stands.stands)
+            (ap (λ (l : Log). l.journal.doubt) (alone_log b c c1 t.tried.alone) ∙ is.stands.sure) read)
         by (pair.WriteFault h) off torn = absurd (off h refl)
         by (pair.BothClosed n) off none = none
         by (pair.BadPage n why) off none = none
@@ -131,7 +134,7 @@ module _ {D : Type 0} (b : Ghosts D) (laws : b.tells → BlockLaws b) (script : 
         stopped_call b script c c' s flush (pair.WriteFault h) same t.ready.ready (subst (λ (d : D). CountsOne (b.count c.store) (b.count d)) (sym store_is) t.tried.one)
         (subst (λ (d : D). StopsBecause b (IsWritingBy flush) script c (record c1 { store = d }) s (turned.Stopped (fault.Drive h))) (sym store_is)
         (tried_because b laws script c c1 s flush top (Err (pair.WriteFault h)) t (pair.WriteFault h) refl))
-        torn_stops
+        (λ told opening scripts first scene is. stops_here b opening scripts first scene c c' s.client entries_are (torn_stops told opening scripts first scene is))
 
 pub torn_by : {D : Type 0} (b : Ghosts D) → (b.tells → BlockLaws b) → (script : ScriptValue) (c c1 : Common D) (s : Course) (flush : Plan) (top : ℕ) (e : PairFault)
     → TriesToLink b script c c1 s flush top (Err e) → (h : Half) → e ≡ pair.WriteFault h → (c' : Common D) → length s.replies.items < length script.lines

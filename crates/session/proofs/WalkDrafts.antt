@@ -8,6 +8,7 @@ use Rattle.pool_draft.specs.Roots.{OtherDrafts, object_in, root_in, serial_in}
 use Rattle.pool_draft.specs.Sets.{base_at, others_of, picked_of, roots_of, view_at}
 use Rattle.pool_draft.specs.declared.pool_set.PoolSet.{PoolSet}
 use Rattle.session.specs.Safe.{drafts_of, view_of}
+use Rattle.session.specs.Values.{one_more}
 use Rattle.session.specs.Walks.{GoesFurther, HasTaken, IsSameDraft}
 use Rattle.session.specs.declared.course.Course.{Course}
 use Rattle.session.specs.declared.stage.Stage.TheVariants as stage
@@ -49,7 +50,7 @@ module _ (s : Course) (new : PoolSet) (one : drafts_of s ≡ 1) (picked : picked
         subst (λ (x : Course). F (view_at s.drafts 0) (view_at x.drafts 0)) (sym further.only)
         (subst (λ n. F (view_at s.drafts 0) (view_at new n)) still_picked (subst (λ n. F (view_at s.drafts n) (view_at new (picked_of new))) picked feeds));
     same = same_then (record s { drafts = new }) s' (ap (λ (x : Course). x.drafts) further.only) same_draft;
-    only = further.only ∙ ap (λ (x : PoolSet). record s { drafts = x; stage = stage.Walking more; turns = s'.turns }) (sym (ap (λ (x : Course). x.drafts) further.only));
+    only = further.only ∙ ap (λ (x : PoolSet). record s { drafts = x; stage = stage.Walking more; turns = one_more s.turns }) (sym (ap (λ (x : Course). x.drafts) further.only));
     answer = further.answer;
   }
     where

@@ -1,5 +1,5 @@
 -- The parts of a walk's turn that make no operation: its pages are merged, and it ends.
-use Rattle.std.proofs.Common.{◌≡◌, ℕ, ◌+◌, ◌-◌, ◌*◌, ◌<◌, ◌≤◌, List, length, Some, None, sym, ap, ◌∙◌, subst}
+use Rattle.std.proofs.Common.{◌≡◌, ℕ, ◌+◌, ◌-◌, ◌*◌, ◌<◌, ◌≤◌, List, length, Some, None, sym, ap, ◌∙◌, subst, arith}
 use Rattle.afs_base.specs.declared.kind.Kind.{Kind}
 use Rattle.block_map.specs.States.{held_count}
 use Rattle.draft_model.specs.Views.{View}
@@ -12,9 +12,11 @@ use Rattle.service_model.specs.Standing.{Scripts}
 use Rattle.tree_model.specs.States.{State}
 use Rattle.tree_model.specs.Trees.{tree_after}
 use Rattle.ground_model.specs.Ahead.{IsWalking}
+use Rattle.ground_model.specs.Bounds.{turns_to}
 use Rattle.ground_model.specs.Own.{HasMerged}
 use Rattle.ground_model.specs.Scenes.{Scene}
 use Rattle.ground_model.proofs.Ahead.{walk_clashes, walk_merges, walk_settles}
+use Rattle.ground_model.proofs.Bounded.{turns_grow, walk_is_within}
 use Rattle.session.specs.Calls.{IsIn, IsReady, MoveCall}
 use Rattle.session.specs.Own.{IsClashing, IsMerged, IsWalkingBy, IsWalkingOn}
 use Rattle.session.specs.Safe.{AreSafeDrafts, IsSafe, IsSafeStage, drafts_of, noted_for, root_of, view_of}
@@ -37,6 +39,7 @@ pub record IsSameBeside (s s' : Course) : Type 0 where
   pub rights : s'.rights ≡ s.rights
   pub held : s'.held ≡ s.held
   pub stage : s'.stage ≡ s.stage
+  pub turns : s'.turns ≡ s.turns
 
 pub beside_settled : (s s' : Course) (walk more : WalkValue) → HasSettled walk more s s' → IsSameBeside s s'
 beside_settled s s' walk more settled = record {
@@ -45,6 +48,7 @@ beside_settled s s' walk more settled = record {
   rights = ap (λ (x : Course). x.rights) settled.only;
   held = ap (λ (x : Course). x.held) settled.only;
   stage = ap (λ (x : Course). x.stage) settled.only;
+  turns = ap (λ (x : Course). x.turns) settled.only;
 }
 
 module _ {D : Type 0} (b : Ghosts D) (script : ScriptValue) (c : Common D) (s s' : Course) (ready : IsReady b script c s) (one : drafts_of s ≡ 1) (same : IsSameDraft s s') (beside : IsSameBeside s s') where
@@ -92,6 +96,10 @@ module _ {D : Type 0} (b : Ghosts D) (script : ScriptValue) (c : Common D) (s s'
           walking = subst (λ n. IsWalking scene x.work x.upto x.root x.tree x.before n x.made x.fed more (view_of s')) (sym same.root)
               (walk_settles scene x.work x.upto x.root x.tree x.before (view_of s) (view_of s') (root_of s) x.made x.fed walk more x.walking settled.settles);
           serial = same.serial ∙ x.serial;
+          turns =
+              let low = x.turns in
+              let is = beside.turns in
+              subst (λ h. s'.turns ≤ turns_to scene.standing.made h x.work x.upto + (1 + h) + x.fed) (sym beside.held) (omega (arith, low, is));
         }
 
     pub settles_move : MoveCall b (IsWalkingBy walk) (IsWalkingBy more) script c c s s'
@@ -121,6 +129,14 @@ module _ {D : Type 0} (b : Ghosts D) (script : ScriptValue) (c : Common D) (s s'
               let F : ℕ → ℕ → View → Type 0 = λ n r d. HasMerged scene x.work n r (tree_after x.tree x.made.steps) d in
               subst (λ n. F n (root_of s') (view_of s')) (sym (same.serial ∙ x.serial))
               (subst (λ r. F (x.upto + 1) r (view_of s')) (sym same.root) (subst (λ (d : View). F (x.upto + 1) (root_of s) d) (sym view) there));
+          turns =
+              let F : ℕ → ℕ → Type 0 = λ h n. s'.turns ≤ turns_to scene.standing.made h x.work n + 0 in
+              let ahead = x.walking.ahead in
+              let more = turns_grow scene.standing.made s.held x.work x.made x.upto ahead.listed ahead.of_object ahead.serial x.walking.merged.from in
+              let few = walk_is_within scene x.work x.upto x.root x.tree x.before (root_of s) x.made x.fed walk (view_of s) x.walking in
+              let low = x.turns in
+              let is = beside.turns in
+              subst (λ n. F s'.held n) (sym (same.serial ∙ x.serial)) (subst (λ h. F h (x.upto + 1)) (sym beside.held) (omega (arith, more, few, low, is)));
         }
 
     clashes_owns : (path : List ℕ) (kind : Kind) → walk.clash ≡ Some (path, kind) → (opening : State) (scripts : Scripts) (first : ℕ) (scene : Scene)

@@ -15,12 +15,12 @@ use Rattle.tree_model.specs.States.{State}
 use Rattle.ground_model.specs.Runs.{Stands}
 use Rattle.ground_model.specs.Scenes.{Scene}
 use Rattle.ground_model.proofs.HeadsTold.{blocks_fit}
-use Rattle.session.specs.Calls.{AnswersLine, IsCounted, IsIn, IsLost, IsReady, IsWorkOf, KeepsNumbers, KeepsRoom, Own, StopsBecause, TurnCall}
+use Rattle.session.specs.Calls.{AnswersLine, CountsTurn, IsCounted, IsIn, IsLost, IsReady, IsWorkOf, KeepsNumbers, KeepsRoom, Own, StopsBecause, TurnCall}
 use Rattle.session.specs.Ends.{StopsBy, TurnEnds, TurnGoes}
 use Rattle.session.specs.Reads.{ReadCall}
 use Rattle.session.specs.Safe.{IsSafe, IsSafeStore, noted_for}
 use Rattle.session.specs.Shared.{RunStands, doubt_of, entries_of, room_of}
-use Rattle.session.specs.Values.{RepliesValue}
+use Rattle.session.specs.Values.{RepliesValue, one_more}
 use Rattle.session.specs.declared.common.Common.{Common}
 use Rattle.session.specs.declared.course.Course.{Course}
 use Rattle.session.specs.declared.turned.Fault.{Fault}
@@ -28,7 +28,9 @@ use Rattle.session.specs.declared.turned.Fault.TheVariants as fault
 use Rattle.session.specs.declared.turned.Turned.{Turned}
 use Rattle.session.specs.declared.turned.Turned.TheVariants as turned
 use Rattle.session.proofs.BlockLaws.{BlockLaws}
+use Rattle.session.proofs.Counting.{rest_kept}
 use Rattle.session.proofs.Numbers.{safe_store_on}
+use Rattle.session.proofs.Calling.{stops_here}
 
 fault_same : (x y : Fault) → turned.Stopped x ≡ turned.Stopped y → x ≡ y
 fault_same x y e = cc
@@ -102,13 +104,13 @@ module _ {D T : Type 0} (b : Ghosts D) (Gives : List ℕ → T → Type 0) (own 
   stopped_at e drive was = (let P : Result T Fault → Type 0 = λ r. IfErr r (λ x. (h : Half) × (x ≡ fault.Drive h)) in subst P was drive)
 
   stop_ends : (e : Fault) → result ≡ Err e → b.tells → (opening : State) (scripts : Scripts) (first : ℕ) (scene : Scene) → IsIn b own script c s opening scripts first scene
-      → StopsBy b opening scripts first c' e
+      → StopsBy b opening scripts first scene c c' s.client e
   stop_ends e was told opening scripts first scene is =
       let there : Shown b Gives c n = shown told opening scripts first scene is in
       let half = stopped_at e (read.good told there.settled there.low there.bytes there.value there.holds there.gives) was in
-      subst (StopsBy b opening scripts first c') (sym half.1)
-      ((laws told).reads opening scripts first scene c.store c'.store c'.log.journal
-      (subst (λ xs. Stands b opening scripts first scene c.store xs) (sym entries_are) is.stands.stands) (doubt_is ∙ is.stands.sure) (read.read told))
+      subst (StopsBy b opening scripts first scene c c' s.client) (sym half.1)
+      (stops_here b opening scripts first scene c c' s.client entries_are ((laws told).reads opening scripts first scene c.store c'.store c'.log.journal
+      (subst (λ xs. Stands b opening scripts first scene c.store xs) (sym entries_are) is.stands.stands) (doubt_is ∙ is.stands.sure) (read.read told)))
 
   -- the run stops, and the course is as it was
   pub failed_call : (e : Fault) → result ≡ Err e → TurnCall b own script c c' s s (turned.Stopped e)
@@ -119,6 +121,8 @@ module _ {D T : Type 0} (b : Ghosts D) (Gives : List ℕ → T → Type 0) (own 
     client = refl;
     entries = (let same = ap length entries_are in omega (arith, same));
     lines = refl;
+    counts = tt;
+    rest = tt;
     counted = read.most;
     stopped = stops_by e was;
     turns = λ told opening scripts first scene is. stop_ends e was told opening scripts first scene is;
@@ -145,12 +149,15 @@ module _ {D T : Type 0} (b : Ghosts D) (Gives : List ℕ → T → Type 0) (own 
     client = refl;
     entries = (let same = ap length entries_are in omega (arith, same));
     lines = refl;
+    counts = tt;
+    rest = tt;
     counted = inr (one_block x was);
     stopped = λ h is. (let wrong : fault.Bad block why ≡ fault.Drive h = fault_same (fault.Bad block why) (fault.Drive h) is in absurd cc);
     turns = λ told opening scripts first scene is. absurd (lost told opening scripts first scene is);
   }
 
   module _ (x : T) (was : result ≡ Ok x) (s' : Course) (safe : IsSafe (b.size c.store) c.map script s') (client : s'.client ≡ s.client) (replies : s'.replies ≡ s.replies) (held : s'.held ≡ s.held)
+      (turns : s'.turns ≡ one_more s.turns)
       (goes : b.tells → (opening : State) (scripts : Scripts) (first : ℕ) (scene : Scene) → IsIn b own script c s opening scripts first scene → TurnGoes b opening scripts first scene c c' script s') where
     room_kept : KeepsRoom script c c' s s'
     room_kept =
@@ -162,16 +169,18 @@ module _ {D T : Type 0} (b : Ghosts D) (Gives : List ℕ → T → Type 0) (own 
     one_read : CountsOne (b.count c.store) (b.count c'.store)
     one_read = one_block x was
 
-    given_call : (answer : Turned) → AnswersLine script s s' answer → IsCounted (b.count c.store) (b.count c'.store) answer → ((h : Half) → answer ≡ turned.Stopped (fault.Drive h) → ⊥)
+    given_call : (answer : Turned) → AnswersLine script s s' answer → CountsTurn s s' answer → IsCounted (b.count c.store) (b.count c'.store) answer → ((h : Half) → answer ≡ turned.Stopped (fault.Drive h) → ⊥)
         → (b.tells → (opening : State) (scripts : Scripts) (first : ℕ) (scene : Scene) → IsIn b own script c s opening scripts first scene → TurnEnds b opening scripts first scene c c' script s s' answer)
         → TurnCall b own script c c' s s' answer
-    given_call answer lines counted never ends = record {
+    given_call answer lines counts counted never ends = record {
       store = store_safe;
       safe = course_safe s' safe;
       numbers = numbers_kept;
       client = client;
       entries = room_kept;
       lines = lines;
+      counts = counts;
+      rest = rest_kept b c.store c'.store read.rest answer;
       counted = counted;
       stopped = λ h is. absurd (never h is);
       turns = ends;
@@ -180,10 +189,10 @@ module _ {D T : Type 0} (b : Ghosts D) (Gives : List ℕ → T → Type 0) (own 
     pub went_call : (answer : Turned) → (answer ≡ turned.Again) ⊎ ((job : JobValue) × (answer ≡ turned.Work job) × IsWorkOf s'.stage job) → TurnCall b own script c c' s s' answer
     went_call answer (inl again) =
         subst (λ (r : Turned). TurnCall b own script c c' s s' r) (sym again)
-        (given_call turned.Again replies one_read (λ h is. (let wrong : turned.Again ≡ turned.Stopped (fault.Drive h) = is in cc wrong)) goes)
+        (given_call turned.Again replies turns one_read (λ h is. (let wrong : turned.Again ≡ turned.Stopped (fault.Drive h) = is in cc wrong)) goes)
     went_call answer (inr (job, work, of_walk)) =
         subst (λ (r : Turned). TurnCall b own script c c' s s' r) (sym work)
-        (given_call (turned.Work job) (replies, of_walk) one_read (λ h is. (let wrong : turned.Work job ≡ turned.Stopped (fault.Drive h) = is in cc wrong)) goes)
+        (given_call (turned.Work job) (replies, of_walk) turns one_read (λ h is. (let wrong : turned.Work job ≡ turned.Stopped (fault.Drive h) = is in cc wrong)) goes)
 
 -- ---- places
 

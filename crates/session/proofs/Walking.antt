@@ -17,7 +17,7 @@ use Rattle.ground_model.specs.Steps.{moved_to}
 use Rattle.ground_model.proofs.Ahead.{base_stays, merged_stays_own, walk_stays_own}
 use Rattle.ground_model.proofs.Noted.{nothing_is_noted}
 use Rattle.session.specs.Ends.{TurnGoes}
-use Rattle.session.specs.Own.{IsCommitting, IsCommittingOf, IsMerged, IsNaming, IsOwn, IsTaken, IsWalkingOn, OwnsStage}
+use Rattle.session.specs.Own.{IsCommitting, IsCommittingOf, IsMergedIn, IsNaming, IsOwn, IsTaken, IsWalkingOn, OwnsStage}
 use Rattle.session.specs.Reads.{StoreAlone}
 use Rattle.session.specs.Safe.{drafts_of, object_of, serial_of, root_of, view_of}
 use Rattle.session.specs.Shared.{RunStands, entries_of}
@@ -88,19 +88,20 @@ module _ (scripts : Scripts) (scene : Scene) (script : ScriptValue) (s : Course)
     held = co.held;
   }
 
-  merged_on : IsMerged scripts scene script s → IsMerged scripts after script s
-  merged_on m = record {
+  merged_on : (more : ℕ) → IsMergedIn more scripts scene script s → IsMergedIn more scripts after script s
+  merged_on more m = record {
     update = m.update;
     work = m.work;
     tree = m.tree;
     committing = committing_on m.update m.work m.committing;
     merged = merged_stays_own scene after m.work (serial_of s) (root_of s) m.tree (view_of s) keeps refl m.merged;
+    turns = m.turns;
   }
 
   pub naming_on : (next : ℕ) → IsNaming scripts scene script s next → IsNaming scripts after script s next
   unfolding merged_on
   naming_on next n = record {
-    merged = merged_on n.merged;
+    merged = merged_on (1 + s.held) n.merged;
     later = n.later;
     tree = n.tree;
     base = base_stays scene after n.merged.work.object (serial_of s + 1) next n.tree keeps n.base;
@@ -121,6 +122,7 @@ module _ (scripts : Scripts) (scene : Scene) (script : ScriptValue) (s : Course)
         walk_stays_own scripts s.client scene after x.work x.upto x.root x.tree x.before (view_of s) (root_of s) x.made x.fed walk keeps refl shared sound
         (is_on scripts scene script s x.update x.work x.committing) x.walking;
     serial = x.serial;
+    turns = x.turns;
   }
 
 -- ---- its next stage

@@ -1,7 +1,9 @@
 -- The run goes on after a page of a flush was written, and stops where the write failed.
-use Rattle.std.proofs.Common.{◌≡◌, ◌⊎◌, inl, inr, ℕ, ◌-◌, ◌+◌, ◌^◌, List, [], ◌++◌, length, Option, Some, Ok, Err, refl, sym, ap, ◌∙◌, subst, arith, slice_get, append-nil}
+use Rattle.std.proofs.Common.{◌≡◌, ◌⊎◌, inl, inr, ℕ, ◌-◌, ◌+◌, ◌^◌, List, [], ◌++◌, length, Option, Some, Ok, Err, refl, sym, ap, ◌∙◌, subst, arith, slice_get, append-nil, length-append, ◌∷◌, ◌<◌, None}
 use Rattle.std.specs.Prelude.{min}
+use Rattle.draft_model.specs.Flush.{Placed, in_turn}
 use Rattle.drives.specs.declared.device.Half.{Half}
+use Rattle.block_map.proofs.Marking.{slice_get-lt}
 use Rattle.block_map.specs.States.{held_count}
 use Rattle.block_map.specs.declared.states.BlockState.{BlockState}
 use Rattle.caps.specs.Tables.{seal_of}
@@ -27,10 +29,11 @@ use Rattle.ground_model.proofs.Noted.{nothing_is_noted}
 use Rattle.ground_model.proofs.Writing.{flush_goes_on}
 use Rattle.session.specs.Calls.{IsIn, IsLost, IsReady, StopsBecause, TurnCall}
 use Rattle.session.specs.Ends.{GoesTo}
-use Rattle.session.specs.Own.{IsMerged, IsWritingBy, IsWritingOut}
+use Rattle.session.specs.Own.{IsMergedIn, IsWritingBy, IsWritingOut}
 use Rattle.session.specs.Reads.{StoreAlone, WriteCall}
 use Rattle.session.specs.Safe.{AreSafeDrafts, IsSafe, IsSafeFlush, IsSafeStage, drafts_of, object_of, root_of, serial_of, view_of}
 use Rattle.session.specs.Shared.{RunStands, entries_of}
+use Rattle.session.specs.Values.{one_more}
 use Rattle.session.specs.declared.common.Common.{Common}
 use Rattle.session.specs.declared.course.Course.{Course}
 use Rattle.session.specs.declared.log.Log.{Log}
@@ -39,12 +42,20 @@ use Rattle.session.specs.declared.turned.Fault.{Fault}
 use Rattle.session.specs.declared.turned.Fault.TheVariants as fault
 use Rattle.session.specs.declared.turned.Turned.TheVariants as turned
 use Rattle.session.proofs.BlockLaws.{BlockLaws}
-use Rattle.session.proofs.Calling.{of_none}
+use Rattle.session.proofs.Calling.{of_none, stops_here}
 use Rattle.session.proofs.Deciding.{sets_none}
 use Rattle.session.proofs.Going.{SharesOn, shares_read, turn_goes}
 use Rattle.session.proofs.Numbers.{alone_entries, alone_log, alone_map, alone_numbers, alone_safe}
 use Rattle.session.proofs.Courses.{course_with}
 use Rattle.session.proofs.Staying.{still_merged}
+
+-- whose turn it is has a place
+turn_within : (placed : List Placed) (k : ℕ) (x : Placed) → slice_get (in_turn placed) k ≡ Some x → k < length placed
+turn_within [] k x at = absurd (let no : None ≡ Some x = at in cc)
+turn_within (y ∷ placed) k x at =
+    let low = slice_get-lt (placed ++ y ∷ []) k x at in
+    let more = length-append placed (y ∷ []) in
+    omega (arith, low, more)
 
 -- the run stands where the store stands, if the client's turn noted nothing and left all else
 pub goes_nothing : {D : Type 0} (b : Ghosts D) (opening : State) (scripts : Scripts) (first k : ℕ) (scene : Scene) (c c' : Common D) → RunStands b opening scripts first scene c
@@ -72,7 +83,7 @@ goes_nothing b opening scripts first k scene c c' st shares stands others = reco
 module _ {D : Type 0} (b : Ghosts D) (laws : b.tells → BlockLaws b) (script : ScriptValue) (c c' : Common D) (s : Course) (ready : IsReady b script c s) (one : drafts_of s ≡ 1) (flush more : Plan)
     (at j : ℕ) (bytes path : List ℕ) (place : slice_get flush.placed j ≡ Some (record { path = path; block = at })) (alone : StoreAlone b c c') where
   module _ (opening : State) (scripts : Scripts) (first : ℕ) (scene : Scene) (told : b.tells) (is : IsIn b (IsWritingBy flush) script c s opening scripts first scene) where
-    abbrev m : IsMerged scripts scene script s
+    abbrev m : IsMergedIn flush.written scripts scene script s
     m = is.mine.merged
 
     abbrev own : Client
@@ -113,13 +124,14 @@ module _ {D : Type 0} (b : Ghosts D) (laws : b.tells → BlockLaws b) (script : 
       pub write_goes : GoesTo b opening scripts first scene after c c' s.client []
       write_goes = goes_nothing b opening scripts first s.client scene c c' is.stands (shares_read b c c' alone) both.0 both.1.leaves
 
-      pub write_own : (turns : ℕ) → GivesNext (view_of s) (base_of (root_of s) (object_of s) (serial_of s)) flush more at bytes
-          → IsWritingOut scripts after script (course_with s s.held (stage.Writing more) turns) more
+      pub write_own : GivesNext (view_of s) (base_of (root_of s) (object_of s) (serial_of s)) flush more at bytes
+          → IsWritingOut scripts after script (course_with s s.held (stage.Writing more) (one_more s.turns)) more
       unfolding still_merged
-      write_own turns gives = record {
+      write_own gives = record {
         merged =
-            still_merged scripts scene script s (b.content c'.store) scene.states [] own s.held (stage.Writing more) turns m notes both.1 m.committing.is_open
-            m.committing.seated.answers m.committing.taken m.committing.held;
+            still_merged scripts scene script s (b.content c'.store) scene.states [] own s.held (stage.Writing more) (one_more s.turns) flush.written more.written m notes both.1
+            m.committing.is_open m.committing.seated.answers m.committing.taken m.committing.held
+            (let was = m.turns in let next : more.written ≡ flush.written + 1 = ap (λ (p : Plan). p.written) gives.plan in omega (arith, was, next));
         flushing =
             flush_goes_on scene after s.client (view_of s) (base_of (root_of s) m.work.object (serial_of s)) flush more at bytes is.mine.flushing
             (subst (λ n. GivesNext (view_of s) (base_of (root_of s) n (serial_of s)) flush more at bytes) m.committing.plain.object gives)
@@ -127,14 +139,19 @@ module _ {D : Type 0} (b : Ghosts D) (laws : b.tells → BlockLaws b) (script : 
         top = subst (λ (p : Plan). StartsAtRoot p.placed) (sym gives.plan) is.mine.top;
         alone = ap (λ (p : Plan). p.members) gives.plan ∙ is.mine.alone;
         number = is.mine.number ∙ sym (ap (λ (p : Plan). length p.placed) gives.plan);
+        within =
+            let next : more.written ≡ flush.written + 1 = ap (λ (p : Plan). p.written) gives.plan in
+            let size : length more.placed ≡ length flush.placed = ap (λ (p : Plan). length p.placed) gives.plan in
+            let least = turn_within flush.placed flush.written _ gives.turn in
+            omega (arith, next, size, least);
         unworn = is.mine.unworn;
       }
 
   -- ---- the page was written
 
-  module _ (safe : IsSafeFlush (length c.map) s more) (gives : GivesNext (view_of s) (base_of (root_of s) (object_of s) (serial_of s)) flush more at bytes) (turns : ℕ) where
+  module _ (safe : IsSafeFlush (length c.map) s more) (gives : GivesNext (view_of s) (base_of (root_of s) (object_of s) (serial_of s)) flush more at bytes) where
     abbrev s' : Course
-    s' = course_with s s.held (stage.Writing more) turns
+    s' = course_with s s.held (stage.Writing more) (one_more s.turns)
 
     written_safe : IsSafe (b.size c'.store) c'.map script s'
     written_safe = record {
@@ -148,7 +165,7 @@ module _ {D : Type 0} (b : Ghosts D) (laws : b.tells → BlockLaws b) (script : 
       );
     }
 
-    pub written_call : WriteCall b c c' at bytes (Ok tt) → TurnCall b (IsWritingBy flush) script c c' s s' turned.Again
+    written_call : WriteCall b c c' at bytes (Ok tt) → TurnCall b (IsWritingBy flush) script c c' s s' turned.Again
     written_call call = record {
       store = alone_safe b c c' alone ready.store;
       safe = written_safe;
@@ -156,13 +173,18 @@ module _ {D : Type 0} (b : Ghosts D) (laws : b.tells → BlockLaws b) (script : 
       client = refl;
       entries = (let same = ap length (alone_entries b c c' alone) in omega (arith, same));
       lines = refl;
+      counts = refl;
+      rest = λ told was. call.rest told;
       counted = call.one;
       stopped = λ h is. (let wrong : turned.Again ≡ turned.Stopped (fault.Drive h) = is in absurd cc);
       turns = λ told opening scripts first scene is.
           let put : HasPut b c.store c'.store at bytes = call.put told (settled opening scripts first scene told is) in
           turn_goes b opening scripts first scene (after opening scripts first scene told is) c c' script s' s.client [] refl
-          (write_goes opening scripts first scene told is put) (record { moments = refl; one = omega arith }) (write_own opening scripts first scene told is put turns gives);
+          (write_goes opening scripts first scene told is put) (record { moments = refl; one = omega arith }) (write_own opening scripts first scene told is put gives);
     }
+
+    pub written_by : (t : Course) → t ≡ s' → WriteCall b c c' at bytes (Ok tt) → TurnCall b (IsWritingBy flush) script c c' s t turned.Again
+    written_by t is call = subst (λ (x : Course). TurnCall b (IsWritingBy flush) script c c' s x turned.Again) (sym is) (written_call call)
 
   -- ---- its write failed
 
@@ -207,9 +229,11 @@ module _ {D : Type 0} (b : Ghosts D) (laws : b.tells → BlockLaws b) (script : 
       client = refl;
       entries = (let same = ap length (alone_entries b c c' alone) in omega (arith, same));
       lines = refl;
+      counts = tt;
+      rest = tt;
       counted = inr call.one;
       stopped = failed_because;
-      turns = λ told opening scripts first scene is. failed_stops opening scripts first scene told is;
+      turns = λ told opening scripts first scene is. stops_here b opening scripts first scene c c' s.client (alone_entries b c c' alone) (failed_stops opening scripts first scene told is);
     }
 
 pub failed_by : {D : Type 0} (b : Ghosts D) → (b.tells → BlockLaws b) → (script : ScriptValue) (c c' : Common D) (s : Course) → IsReady b script c s → drafts_of s ≡ 1 → (flush more : Plan)

@@ -1,9 +1,7 @@
 -- The contracts of turns, and of what they are made of.
-use Rattle.std.specs.Prelude.{◌≡◌, ◌≢◌, ◌⊎◌, ℕ, ◌+◌, ◌<◌, ◌≤◌, true, List, [], ◌∷◌, ◌++◌, length, Some, not}
-use Rattle.std.specs.List.{list_all}
+use Rattle.std.specs.Prelude.{◌≡◌, ◌≢◌, ◌⊎◌, ℕ, ◌+◌, ◌<◌, ◌≤◌, List, [], ◌∷◌, ◌++◌, length, Some}
 use Rattle.block_map.specs.States.{held_count}
 use Rattle.drives.specs.declared.device.Half.{Half}
-use Rattle.ground_model.specs.Fronts.{is_change}
 use Rattle.ground_model.specs.Scenes.{Scene}
 use Rattle.joint_walk.specs.Calls.{waiting_job}
 use Rattle.page_merge.specs.Jobs.{JobValue}
@@ -16,9 +14,10 @@ use Rattle.script_text.specs.declared.script.Line.{Line}
 use Rattle.service_model.specs.declared.journal.Entry.{Entry}
 use Rattle.service_model.specs.Standing.{Scripts}
 use Rattle.tree_model.specs.States.{State}
-use Rattle.session.specs.Ends.{GoesTo, TurnEnds}
+use Rattle.session.specs.Ends.{AreUnmoved, GoesTo, TurnEnds}
 use Rattle.session.specs.Safe.{IsSafe, IsSafeStore, entries_left, line_of}
 use Rattle.session.specs.Shared.{RunStands, entries_of, room_of}
+use Rattle.session.specs.Values.{one_more}
 use Rattle.session.specs.declared.common.Common.{Common}
 use Rattle.session.specs.declared.course.Course.{Course}
 use Rattle.session.specs.declared.stage.Stage.{Stage}
@@ -61,6 +60,22 @@ AnswersLine script s s' (turned.Work job) = (s'.replies ≡ s.replies) × IsWork
 AnswersLine script s s' turned.Finished =
     (length s.replies.items ≡ length script.lines) × (s' ≡ s)
 AnswersLine script s s' (turned.Stopped fault) = s'.replies ≡ s.replies
+
+-- The turns of a line are counted as long as it goes on; behind a line stands no stage of it.
+abbrev pub CountsTurn : Course → Course → Turned → Type 0
+CountsTurn s s' (turned.Line n) = (s'.turns ≡ 0) × (s'.stage ≡ stage.Resting)
+CountsTurn s s' turned.Again = s'.turns ≡ one_more s.turns
+CountsTurn s s' (turned.Work job) = s'.turns ≡ one_more s.turns
+CountsTurn s s' turned.Finished = s'.turns ≡ s.turns
+CountsTurn s s' (turned.Stopped fault) = Unit {0}
+
+-- Where nothing was pending, nothing is after a turn that did not stop.
+abbrev pub KeepsRest : {D : Type 0} → Ghosts D → D → D → Turned → Type 0
+KeepsRest b old new (turned.Line n) = b.tells → b.rest old → b.rest new
+KeepsRest b old new turned.Again = b.tells → b.rest old → b.rest new
+KeepsRest b old new (turned.Work job) = b.tells → b.rest old → b.rest new
+KeepsRest b old new turned.Finished = b.tells → b.rest old → b.rest new
+KeepsRest b old new (turned.Stopped fault) = Unit {0}
 
 -- How many operations on blocks a turn made: one where the line goes on, and at most one else.
 abbrev pub IsCounted : ℕ → ℕ → Turned → Type 0
@@ -126,15 +141,13 @@ pub record TurnCall {D : Type 0} (b : Ghosts D) (own : Own) (script : ScriptValu
   pub client : s'.client ≡ s.client
   pub entries : KeepsRoom script c c' s s'
   pub lines : AnswersLine script s s' result
+  pub counts : CountsTurn s s' result
+  pub rest : KeepsRest b c.store c'.store result
   pub counted : IsCounted (b.count c.store) (b.count c'.store) result
   pub stopped : StopsBecause b own script c c' s result
   pub turns : b.tells → Turns b own script c c' s s' result
 
 -- ---- what comes before a turn's one operation
-
--- No entry changes the state.
-abbrev pub AreUnmoved : List Entry → Type 0
-AreUnmoved es = list_all (λ e. not (is_change e)) es ≡ true
 
 -- Whatever scene the run stood in, it stands in another one, and the client has something else of
 -- its own.

@@ -1,10 +1,15 @@
 -- What a turn of one client leaves the others of their own.
-use Rattle.std.specs.Prelude.{◌≢◌, ℕ, List}
+use Rattle.std.specs.Prelude.{◌≡◌, ◌≢◌, ℕ, ◌≤◌, List, [], ◌∷◌}
+use Rattle.block_map.specs.declared.states.BlockState.{BlockState}
+use Rattle.ground_model.specs.Bounds.{line_bound}
 use Rattle.ground_model.specs.Scenes.{Scene}
 use Rattle.pair_store.specs.declared.store.Blocks.{Ghosts}
 use Rattle.script_text.specs.ScriptValue.{ScriptValue}
 use Rattle.service_model.specs.declared.journal.Entry.{Entry}
-use Rattle.service_model.specs.Standing.{Scripts}
+use Rattle.service_model.specs.Sound.{AreSayable, IsOpenAt, IsSound}
+use Rattle.service_model.specs.Standing.{Scripts, Update, Work}
+use Rattle.play_order.specs.Orders.{IsBetween}
+use Rattle.session.specs.declared.stage.Stage.TheVariants.{Resting}
 use Rattle.tree_model.specs.States.{State}
 use Rattle.session.specs.Calls.{KeepsNumbers}
 use Rattle.session.specs.Ends.{GoesTo}
@@ -28,3 +33,27 @@ SafeIsLeft {D} b =
     (c c' : Common D) (k : ℕ) (script : ScriptValue) (s : Course)
     → KeepsNumbers b c c' k → s.client ≢ k → IsSafe (b.size c.store) c.map script s
     → IsSafe (b.size c'.store) c'.map script s
+
+-- ---- turns of a line
+
+-- The turns of a client's line under way are within the line's bound.
+abbrev pub TurnsAreWithin : Type 0
+TurnsAreWithin =
+    (size : ℕ) (map : List BlockState) (scripts : Scripts) (scene : Scene) (script : ScriptValue)
+    (s : Course)
+    → AreSayable scripts → IsSound scripts scene.standing → IsSafe size map script s
+    → IsOwn scripts scene script s → s.turns ≤ line_bound scripts scene.standing s.client
+
+-- A client that rests is between two lines, unless it reads pages for a step.
+abbrev pub RestIsBetween : Type 0
+RestIsBetween =
+    (scripts : Scripts) (scene : Scene) (script : ScriptValue) (s : Course)
+    → s.stage ≡ Resting → IsOwn scripts scene script s
+    → IsBetween scripts scene.standing s.client
+
+-- An open update of a client is of one file.
+abbrev pub UpdateIsPlain : Type 0
+UpdateIsPlain =
+    (scripts : Scripts) (scene : Scene) (script : ScriptValue) (s : Course)
+    → IsOwn scripts scene script s → (u : Update) → IsOpenAt scene.standing s.client u
+    → (w : Work) × (u.works ≡ w ∷ [])

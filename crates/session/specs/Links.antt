@@ -1,5 +1,5 @@
 -- How a commit sets its link.
-use Rattle.std.specs.Prelude.{◌≡◌, ℕ, ◌<◌, ◌^◌, [], length, None, Some, Result, Err}
+use Rattle.std.specs.Prelude.{◌≡◌, ℕ, ◌<◌, ◌^◌, [], length, None, Some, Result, Err, OnOk}
 use Rattle.draft_model.specs.Flush.{block_of}
 use Rattle.drives.specs.declared.device.Half.{Half}
 use Rattle.ground_model.specs.Tests.{HasTested}
@@ -39,6 +39,7 @@ pub record HasTried {D : Type 0} (b : Ghosts D) (c c' : Common D) (s : Course) (
   pub alone : StoreAlone b c c'
   pub one : CountsOne (b.count c.store) (b.count c'.store)
   pub test : HasTested b c.store c'.store (root_of s) top tested
+  pub rest : b.tells → b.rest c.store → OnOk tested (b.rest c'.store)
   pub failed : (h : Half) (fault : PairFault) → tested ≡ Err fault → stopped_by fault ≡ Drive h
       → IsFailed (b.faults c.store) (b.faults c'.store) (b.last_fault c'.store)
       (b.moment c'.store)

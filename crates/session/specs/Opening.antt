@@ -1,5 +1,5 @@
 -- What clients share as a run begins: what an opening left, and no entry.
-use Rattle.std.specs.Prelude.{◌≡◌, ◌≢◌, ℕ, ◌≤◌, ◌<◌, ◌-◌, ◌==◌, List, [], length, map, Option, Some, None, Ok, if◌then◌else◌, slice_get}
+use Rattle.std.specs.Prelude.{◌≡◌, ◌≢◌, ℕ, ◌≤◌, ◌<◌, ◌-◌, ◌==◌, List, [], length, map, option_map, Option, Some, None, Ok, if◌then◌else◌, slice_get}
 use Rattle.afs_base.specs.declared.head.Head.{Head}
 use Rattle.block_map.specs.States.{held_count}
 use Rattle.block_map.specs.declared.states.BlockState.{BlockState}
@@ -30,6 +30,13 @@ pub record TellsSerials (heads : List (Option Head)) (object : ℕ) (serials : �
   pub head : Head
   pub told : IsHead heads object head
   pub are : serials ≡ (head.first, head.serial)
+
+-- The same of all objects, object 1 first.
+abbrev pub serials_in : Head → ℕ × ℕ
+serials_in head = (head.first, head.serial)
+
+abbrev pub told_of : List (Option Head) → List (Option (ℕ × ℕ))
+told_of heads = map (option_map serials_in) heads
 
 -- ---- the map of blocks
 

@@ -4,6 +4,7 @@ use Rattle.std.specs.Prelude.{List, [], ◌∷◌, length, Option, Some, None, s
 use Rattle.caps.specs.Grant.{has_rights}
 use Rattle.draft_model.specs.Views.{View, Wants, copies}
 use Rattle.ground_model.specs.Ahead.{IsWalking}
+use Rattle.ground_model.specs.Bounds.{turns_to}
 use Rattle.ground_model.specs.Own.{HasDraft, HasMerged, IsBase, IsClient, IsFlushing}
 use Rattle.ground_model.specs.Scenes.{Scene}
 use Rattle.joint_walk.specs.Walks.{WalkValue}
@@ -84,8 +85,8 @@ abbrev pub OwnsUpdate : Scene → ScriptValue → Course → Option Update → T
 OwnsUpdate scene script s None = drafts_of s ≡ 0
 OwnsUpdate scene script s (Some u) = IsDrafting scene script s u
 
--- The client is between two lines, or reads pages for a step: nothing is noted of the line, and no
--- block is held.
+-- The client is between two lines, or reads pages for a step: nothing is noted of the line, no block
+-- is held, and no update is open behind the last line. Each turn of the line read a page.
 pub record IsAtRest (scripts : Scripts) (scene : Scene) (script : ScriptValue)
     (s : Course) : Type 0 where
   pub seated : IsSeated scripts scene script s
@@ -93,6 +94,8 @@ pub record IsAtRest (scripts : Scripts) (scene : Scene) (script : ScriptValue)
   pub held : (client_of scene.standing s.client).held ≡ 0
   pub none : s.held ≡ 0
   pub update : OwnsUpdate scene script s (client_of scene.standing s.client).update
+  pub closed : line_of script s ≡ None → drafts_of s ≡ 0
+  pub turns : s.turns ≤ s.drafts.fed
 
 -- ---- its commit
 
@@ -114,14 +117,20 @@ pub record IsCommittingOf (scripts : Scripts) (scene : Scene) (script : ScriptVa
   pub taken : IsTaken s.held u (client_of scene.standing s.client).noted
   pub held : (client_of scene.standing s.client).held ≡ s.held
 
--- Its draft is merged with the versions up to the one that is the draft's base now.
-pub record IsMerged (scripts : Scripts) (scene : Scene) (script : ScriptValue)
+-- Its draft is merged with the versions up to the one that is the draft's base now; and beyond what
+-- these take the line had at most so many turns.
+pub record IsMergedIn (more : ℕ) (scripts : Scripts) (scene : Scene) (script : ScriptValue)
     (s : Course) : Type 0 where
   pub update : Update
   pub work : Work
   pub tree : Tree
   pub committing : IsCommittingOf scripts scene script s update work
   pub merged : HasMerged scene work (serial_of s) (root_of s) tree (view_of s)
+  pub turns : s.turns ≤ turns_to scene.standing.made s.held work (serial_of s) + more
+
+-- So it is, and the line had no more turns.
+abbrev pub IsMerged : Scripts → Scene → ScriptValue → Course → Type 0
+IsMerged scripts scene script s = IsMergedIn 0 scripts scene script s
 
 -- No other client has its file locked,
 pub record IsUnlocked (scripts : Scripts) (scene : Scene) (script : ScriptValue)
@@ -154,10 +163,11 @@ pub record IsHolding (scripts : Scripts) (scene : Scene) (script : ScriptValue)
   pub unworn : serial_of s < 2 ^ 64 - 1
   pub some : 0 < s.held
 
--- The version after the one that its draft is merged with lies in this block.
+-- The version after the one that its draft is merged with lies in this block: a read told it, or a
+-- vain try to set the link after each page was written.
 pub record IsNaming (scripts : Scripts) (scene : Scene) (script : ScriptValue) (s : Course)
     (next : ℕ) : Type 0 where
-  pub merged : IsMerged scripts scene script s
+  pub merged : IsMergedIn (1 + s.held) scripts scene script s
   pub later : serial_of s < last_serial scene.standing.state merged.work.object
   pub tree : Tree
   pub base : IsBase scene merged.work.object (serial_of s + 1) next tree
@@ -165,12 +175,13 @@ pub record IsNaming (scripts : Scripts) (scene : Scene) (script : ScriptValue) (
 -- A flush of its draft into the blocks that it holds is under way.
 pub record IsWritingOut (scripts : Scripts) (scene : Scene) (script : ScriptValue) (s : Course)
     (flush : Plan) : Type 0 where
-  pub merged : IsMerged scripts scene script s
+  pub merged : IsMergedIn flush.written scripts scene script s
   pub flushing : IsFlushing scene s.client (view_of s)
       (base_of (root_of s) merged.work.object (serial_of s)) flush
   pub top : StartsAtRoot flush.placed
   pub alone : flush.members ≡ []
   pub number : s.held ≡ length flush.placed
+  pub within : flush.written ≤ length flush.placed
   pub unworn : serial_of s < 2 ^ 64 - 1
 
 -- A walk over the version after those that its draft is merged with is under way. That version is
@@ -188,6 +199,7 @@ pub record IsWalkingOn (scripts : Scripts) (scene : Scene) (script : ScriptValue
   pub fed : ℕ
   pub walking : IsWalking scene work upto root tree before (root_of s) made fed walk (view_of s)
   pub serial : serial_of s ≡ upto + 1
+  pub turns : s.turns ≤ turns_to scene.standing.made s.held work upto + (1 + s.held) + fed
 
 -- The walk ended with this clash.
 pub record IsClashing (x : Place) (scripts : Scripts) (scene : Scene) (script : ScriptValue)

@@ -53,6 +53,7 @@ pub record ReadCall {D T : Type 0} (b : Ghosts D) (Gives : List ℕ → T → Ty
   pub most : (b.count c'.store ≡ b.count c.store)
       ⊎ CountsOne (b.count c.store) (b.count c'.store)
   pub read : b.tells → IsRead b c.store c'.store
+  pub rest : b.tells → b.rest c.store → b.rest c'.store
   pub gives : b.tells → b.settled c.store n → (bytes : List ℕ)
       → b.content c.store n ≡ Some bytes → IfOk result (Gives bytes)
   pub good : b.tells → b.settled c.store n → n < b.size c.store → (bytes : List ℕ) (x : T)
@@ -80,6 +81,7 @@ pub record WriteCall {D : Type 0} (b : Ghosts D) (c c' : Common D) (n : ℕ) (by
       → OnOk result (HasPut b c.store c'.store n bytes)
   pub fails : b.tells → b.settled_always c.store n
       → OnErr result (FailsToPut b c.store c'.store n bytes)
+  pub rest : b.tells → OnOk result (b.rest c'.store)
   pub drive : IfErr result (λ e. (h : Half) × (e ≡ Drive h))
   pub failed : (h : Half) → IsErrOf result (Drive h)
       → IsFailed (b.faults c.store) (b.faults c'.store) (b.last_fault c'.store)

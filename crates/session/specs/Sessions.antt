@@ -8,8 +8,8 @@ use Rattle.session.specs.declared.course.Course.{Course}
 use Rattle.session.specs.declared.session.Session.{Session}
 use Rattle.session.specs.declared.stage.Stage.TheVariants.{Resting}
 
--- The client has answered no line, has no update open, and holds no block; there is room for its
--- answers.
+-- The client has answered no line, has had no turn and no update open, and holds no block; there is
+-- room for its answers.
 pub record IsNewcomer (client : ℕ) (script : ScriptValue) (s : Session) : Type 0 where
   pub its_script : s.script ≡ script
   pub number : s.course.client ≡ client
@@ -18,6 +18,7 @@ pub record IsNewcomer (client : ℕ) (script : ScriptValue) (s : Session) : Type
   pub drafts : IsCleared s.course.drafts
   pub held : s.course.held ≡ 0
   pub stage : s.course.stage ≡ Resting
+  pub turns : s.course.turns ≡ 0
 
 -- ---- answers
 
@@ -27,7 +28,8 @@ IsNumbered script place number =
     (line : Line) × (slice_get script.lines place ≡ Some line) × (line.number ≡ number)
 
 -- The line with this number was answered so.
-pub record IsReplyTo (script : ScriptValue) (s : Course) (number : ℕ) (reply : LineReply) : Type 0 where
+pub record IsReplyTo (script : ScriptValue) (s : Course) (number : ℕ)
+    (reply : LineReply) : Type 0 where
   pub place : ℕ
   pub line : IsNumbered script place number
   pub is : slice_get s.replies.items place ≡ Some reply

@@ -1,5 +1,5 @@
 -- What contracts see of the lists that a run adds to in room that was made before.
-use Rattle.std.specs.Prelude.{◌≡◌, ◌++◌, ℕ, List, vec_capacity}
+use Rattle.std.specs.Prelude.{◌≡◌, ◌++◌, ℕ, ◌+◌, ◌-◌, ◌^◌, List, min, vec_capacity}
 use Rattle.script_text.specs.declared.reply.LineReply.{LineReply}
 use Rattle.service_model.specs.declared.journal.Entry.{Entry}
 use Rattle.session.specs.declared.log.Log.{Log}
@@ -15,6 +15,10 @@ entries_in l = l.journal.entries.items
 
 abbrev pub room_in : Log → ℕ
 room_in l = vec_capacity l.journal.entries
+
+-- A turn more, counted up to the last number that there is.
+abbrev pub one_more : ℕ → ℕ
+one_more turns = min (turns + 1) (2 ^ 64 - 1)
 
 -- These entries were noted.
 pub record IsNoted (old new : Log) (es : List Entry) : Type 0 where

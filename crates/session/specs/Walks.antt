@@ -6,6 +6,7 @@ use Rattle.page_codec.specs.Values.{PageValue, VersionValue}
 use Rattle.page_codec.specs.declared.why.Why.TheVariants.{Base}
 use Rattle.pool_draft.specs.Sets.{picked_of}
 use Rattle.session.specs.Safe.{drafts_of, object_of, root_of, serial_of, view_of}
+use Rattle.session.specs.Values.{one_more}
 use Rattle.session.specs.declared.course.Course.{Course}
 use Rattle.session.specs.declared.stage.Stage.TheVariants.{Walking}
 use Rattle.session.specs.declared.turned.Fault.TheVariants.{Bad}
@@ -30,7 +31,7 @@ pub record HasSettled (walk more : WalkValue) (s s' : Course) : Type 0 where
 
 -- The walk is kept, and the turn tells the pages of it that wait to be merged.
 pub record GoesFurther (walk : WalkValue) (s s' : Course) (result : Turned) : Type 0 where
-  pub only : s' ≡ record s { stage = Walking walk; turns = s'.turns }
+  pub only : s' ≡ record s { stage = Walking walk; turns = one_more s.turns }
   pub answer : MatchOption (waiting_job walk) (result ≡ Again) (λ job. result ≡ Work job)
 
 -- The walk was fed this page, and is kept.
@@ -39,7 +40,7 @@ pub record HasTaken (walk : WalkValue) (page : PageValue) (s s' : Course)
   pub more : WalkValue
   pub feeds : Feeds walk (view_of s) page more (view_of s')
   pub same : IsSameDraft s s'
-  pub only : s' ≡ record s { drafts = s'.drafts; stage = Walking more; turns = s'.turns }
+  pub only : s' ≡ record s { drafts = s'.drafts; stage = Walking more; turns = one_more s.turns }
   pub answer : MatchOption (waiting_job more) (result ≡ Again) (λ job. result ≡ Work job)
 
 -- The draft has this version as its base, and a walk over it began.
@@ -53,7 +54,7 @@ pub record HasBegun (next : ℕ) (version : VersionValue) (s s' : Course)
   pub object : object_of s' ≡ object_of s
   pub serial : serial_of s' ≡ version.serial
   pub count : s'.drafts.count ≡ s.drafts.count
-  pub only : s' ≡ record s { drafts = s'.drafts; stage = Walking walk; turns = s'.turns }
+  pub only : s' ≡ record s { drafts = s'.drafts; stage = Walking walk; turns = one_more s.turns }
   pub answer : MatchOption (waiting_job walk) (result ≡ Again) (λ job. result ≡ Work job)
 
 -- The version does not follow the draft's base.

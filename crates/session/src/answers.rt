@@ -5,6 +5,7 @@ ghost use Rattle.session.specs.Calls.{IsReady, TurnCall};
 ghost use Rattle.session.specs.Own.{IsAtRest};
 ghost use Rattle.session.specs.Safe.{line_of};
 ghost use Rattle.session.specs.Shared.{entries_of, room_of};
+ghost use Rattle.session.specs.Values.{one_more};
 
 // How lines end.
 
@@ -79,7 +80,7 @@ impl Course {
 
     /// Counts a turn after which the line goes on.
     pub(crate) fn go_on(&mut self)
-        ensures { self.new ≡ record self.old { turns = self.new.turns } }
+        ensures { self.new ≡ record self.old { turns = one_more self.old.turns } }
     {
         self.turns = self.turns.saturating_add(1);
     }

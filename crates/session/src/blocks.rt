@@ -79,7 +79,7 @@ impl Course {
         ensures taken { OnOk result (MoveCall B.Blocks IsUnworn IsHolding script.now common.old
             common.new self.old self.new) }
         ensures held { OnOk result ((self.new.held ≡ blocks) × (self.new.drafts ≡ self.old.drafts)
-            × (self.new.stage ≡ self.old.stage)) }
+            × (self.new.stage ≡ self.old.stage) × (self.new.turns ≡ self.old.turns)) }
         ensures short { IfErr result (λ e. (e.needed ≡ blocks)
             × (e.free ≡ free_count common.old.map) × (e.free < blocks)) }
         ensures same { OnErr result ((common.new ≡ common.old) × (self.new ≡ self.old)) }

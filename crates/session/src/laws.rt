@@ -1,4 +1,5 @@
-ghost use Rattle.session.specs.Laws.{OwnIsLeft, SafeIsLeft};
+ghost use Rattle.session.specs.Laws.{OwnIsLeft, RestIsBetween, SafeIsLeft, TurnsAreWithin};
+ghost use Rattle.session.specs.Laws.{UpdateIsPlain};
 
 use pair_store::Blocks;
 
@@ -7,4 +8,13 @@ use pair_store::Blocks;
 pub fn others_are_left<B: Blocks>()
     ensures own { OwnIsLeft B.Blocks }
     ensures safe { SafeIsLeft B.Blocks }
+{}
+
+/// Runs nothing. Its contract: the turns of a line are within its bound; where a client is between
+/// two lines nothing is noted of the next one, and none has an update open behind its last line;
+/// and each open update is of one file.
+pub fn lines_are_bounded()
+    ensures within { TurnsAreWithin }
+    ensures between { RestIsBetween }
+    ensures plain { UpdateIsPlain }
 {}

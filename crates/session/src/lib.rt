@@ -18,7 +18,7 @@ mod walks;
 
 pub use common::Common;
 pub use course::Course;
-pub use laws::others_are_left;
+pub use laws::{lines_are_bounded, others_are_left};
 pub use log::{Log, Replies};
 pub use opening::run_begins;
 pub use session::Session;

@@ -1,7 +1,8 @@
-ghost use Rattle.std.specs.Prelude.{◌≡◌, ◌+◌, ◌<◌, ◌≤◌, ℕ, map, IfOk, IfErr, MatchOption};
+ghost use Rattle.std.specs.Prelude.{◌≡◌, ◌+◌, ◌<◌, ◌≤◌, ℕ, length, map, slice_get, Some};
+ghost use Rattle.std.specs.Prelude.{IfOk, IfErr, MatchOption};
 ghost use Rattle.block_map.specs.States.{held_count};
 ghost use Rattle.session.specs.Names.{HasNoHead};
-ghost use Rattle.session.specs.Opening.{AreGivenBack, IsGivenBack, IsOver, IsWithin, OpenedRunBegins, TellsSerials, beyond_root};
+ghost use Rattle.session.specs.Opening.{AreGivenBack, IsGivenBack, IsOver, IsWithin, OpenedRunBegins, TellsSerials, beyond_root, told_of};
 ghost use Rattle.session.specs.Safe.{IsSafeStore};
 ghost use Rattle.session.specs.Shared.{room_of};
 
@@ -57,15 +58,15 @@ fn give_all_back(map: &mut BlockMap)
     }
 }
 
-/// Runs nothing. Its contract: over a store as an opening left it a run stands in a scene before its first
-/// turn, and each client that has not begun its script has of its own what it needs.
+/// Runs nothing. Its contract: over a store as an opening left it a run stands in a scene before
+/// its first turn, and each client that has not begun its script has of its own what it needs.
 pub fn run_begins<B: Blocks>()
     ensures { B.tells → OpenedRunBegins B.Blocks }
 {}
 
 impl<B: Blocks> Common<B> {
-    /// What the clients of a run share over a store that was opened, with room for so many entries. Where there
-    /// is no memory for them the store comes back.
+    /// What the clients of a run share over a store that was opened, with room for so many entries.
+    /// Where there is no memory for them the store comes back.
     pub fn over(alloc: Global, opened: OpenedOver<B>, room: usize) -> Result<Common<B>, (B, Memory)>
         requires { IsWithin B.size opened }
         ensures over { IfOk result (IsOver opened) }
@@ -112,12 +113,29 @@ impl<B: Blocks> Common<B> {
         self.store.operations()
     }
 
-    /// The serials of the first and of the last version that an object's file keeps, where the object is live.
+    /// The serials of the first and of the last version that an object's file keeps, where the
+    /// object is live.
     pub fn kept(&self, object: u32) -> Option<(u64, u64)>
         ensures { MatchOption result (HasNoHead self.now.heads.items object)
             (TellsSerials self.now.heads.items object) }
     {
         let head = self.head(object)?;
+        Some((head.first, head.serial))
+    }
+
+    /// How many objects there are.
+    pub fn objects(&self) -> usize
+        ensures { result ≡ length (told_of self.now.heads.items) }
+    {
+        self.heads.len()
+    }
+
+    /// The same as `kept`, of the object at a place, from 0.
+    pub fn serials(&self, place: usize) -> Option<(u64, u64)>
+        requires { place < length (told_of self.now.heads.items) }
+        ensures { slice_get (told_of self.now.heads.items) place ≡ Some result }
+    {
+        let head = self.heads[place]?;
         Some((head.first, head.serial))
     }
 

@@ -65,6 +65,13 @@ impl Session {
         self.course.client
     }
 
+    /// The client's script.
+    pub fn script(&self) -> &Script
+        ensures { result.now ≡ self.now.script }
+    {
+        &self.script
+    }
+
     /// The answer to the line at a place, from 0, where it is answered.
     pub fn reply(&self, place: usize) -> Option<&LineReply>
         ensures { option_copied result ≡ slice_get self.now.course.replies.items place }
@@ -72,7 +79,8 @@ impl Session {
         self.course.replies.get(place)
     }
 
-    /// How many pairs of pages the client merged itself, a number that stands still at its last value.
+    /// How many pairs of pages the client merged itself, a number that stands still at its last
+    /// value.
     pub fn merges(&self) -> u64
         ensures { result ≡ self.now.course.merges }
     {
@@ -100,8 +108,8 @@ impl Session {
         None
     }
 
-    /// One turn of the client: at most one operation on a block. What is offered as the outcome of the pages
-    /// that wait to be merged is taken where it is that of these very pages.
+    /// One turn of the client: at most one operation on a block. What is offered as the outcome of
+    /// the pages that wait to be merged is taken where it is that of these very pages.
     pub fn turn<B: Blocks>(&mut self, common: &mut Common<B>, offer: Option<&Done>) -> Turned
         requires store { IsSafeStore B.size common.old }
         requires safe { IsSafe (B.size common.old.store) common.old.map self.old.script

@@ -5,6 +5,7 @@ ghost use Rattle.script_text.specs.ScriptValue.{ScriptValue};
 ghost use Rattle.session.specs.Calls.{IsReady, TurnCall};
 ghost use Rattle.session.specs.Own.{IsBehind, IsClashing, IsNamingAt, IsWalkingBy};
 ghost use Rattle.session.specs.Safe.{HasDraftIn, drafts_of};
+ghost use Rattle.session.specs.Values.{one_more};
 ghost use Rattle.session.specs.Walks.{BeginsWalk, GoesFurther, HasSettled, HasTaken};
 ghost use Rattle.session.specs.declared.stage.Stage.TheVariants.{Naming};
 ghost use Rattle.std.specs.Option.{ForSome};
@@ -38,7 +39,10 @@ fn work_of(walk: &Walk) -> Turned
 impl Course {
     /// Goes on with the version in this block, which follows the draft's base.
     pub(crate) fn name(&mut self, next: BlockNo) -> Turned
-        ensures named { self.new ≡ record self.old { stage = Naming next; turns = self.new.turns } }
+        ensures named { self.new ≡ record self.old {
+          stage = Naming next;
+          turns = one_more self.old.turns;
+        } }
         ensures again { result ≡ Turned.Again }
     {
         self.stage = Stage::Naming { next };

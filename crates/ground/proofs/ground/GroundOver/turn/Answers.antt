@@ -43,10 +43,15 @@ returns g c =
       stays = all.stays;
       fault = all.fault;
       answers = all.answers;
+      turns = all.turns;
+      rest = all.rest;
+      timely = all.timely;
+      whole = all.whole;
       others = all.others;
       finished = all.finished;
       counted = all.counted;
       later = all.later;
       stopped = all.stopped;
       notes = all.notes;
+      good = all.good;
     }

@@ -23,10 +23,10 @@ returns-in-Ok g c =
     let same = same_draft s new c.requires.draft draft.picked called in
     let picked = still_picked s new c.requires.draft draft.picked called in
     moved_call b (IsWalkingBy walk) IsMerged script common common c.decide.new.common s (record s { drafts = new }) c.decide.new.self c.decide.result c.requires.ready.line
-    (merges_move b script common s (record s { drafts = new }) c.requires.ready c.requires.draft same (record { client = refl; replies = refl; rights = refl; held = refl; stage = refl }) walk
+    (merges_move b script common s (record s { drafts = new }) c.requires.ready c.requires.draft same (record { client = refl; replies = refl; rights = refl; held = refl; stage = refl; turns = refl }) walk
     (let F : View → Type 0 = λ d. Ends walk d walk.clash in subst F (ap (view_at new) picked) e.ends)
     (called_view s new c.requires.draft draft.picked called e.draft) c.in-Ok.ensures.result)
-    c.decide.ensures
+    c.decide.ensures refl
 
 pub returns-in-Err : goal.returns-in-Err
 returns-in-Err g c =
@@ -44,7 +44,7 @@ returns-in-Err g c =
     let picked = still_picked s new c.requires.draft draft.picked called in
     moved_call b (IsWalkingBy walk) (IsClashing (clash.path, clash.kind)) script common common c.refuse_clash.new.common s (record s { drafts = new }) c.refuse_clash.new.self c.refuse_clash.result
     c.requires.ready.line
-    (clashes_move b script common s (record s { drafts = new }) c.requires.ready c.requires.draft same (record { client = refl; replies = refl; rights = refl; held = refl; stage = refl }) walk
+    (clashes_move b script common s (record s { drafts = new }) c.requires.ready c.requires.draft same (record { client = refl; replies = refl; rights = refl; held = refl; stage = refl; turns = refl }) walk
     (let F : View → Type 0 = λ d. Ends walk d walk.clash in subst F (ap (view_at new) picked) e.ends)
     (called_view s new c.requires.draft draft.picked called e.draft) clash.path clash.kind c.in-Err.ensures.result)
-    c.refuse_clash.ensures
+    c.refuse_clash.ensures refl

@@ -29,7 +29,7 @@ returns-in-Ok-feed g c = λ script step ready command rights few wants.
     (on_same_base s.drafts c.feed.new.self c.requires.draft.picked c.requires.draft.one c.in-Ok-feed.ensures.rest c.in-Ok-feed.ensures.same)
     c.in-Ok-feed.ensures.feeds c.in-Ok-feed.ensures.fed c.in-Ok-feed.ensures.count c.in-Ok-feed.ensures.more in
     fetched_call g.B.Blocks script c.args.common.now c.read_page.new.self s step c.args.path.now c.args.block c.in-Ok.page command c.requires.draft.one rights few wants
-    c.feed.new.self c.go_on.new.self.turns was_fed
+    c.feed.new.self was_fed
     (subst (λ (n : ℕ). ReadCall g.B.Blocks (IsPageOf n) c.args.common.now c.read_page.new.self c.args.block (Ok c.in-Ok.page)) c.len-level.ensures.value c.in-Ok.ensures.read)
     (λ told. line_turn_stands g.B.Blocks (λ d n f always left. g.met.B.Blocks.settled_left d n f told always left))
     (λ told. read_turn_stands g.B.Blocks (λ d n f always left. g.met.B.Blocks.settled_left d n f told always left))

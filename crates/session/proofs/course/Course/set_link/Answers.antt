@@ -2,7 +2,7 @@ use Rattle.std.proofs.Common.{◌≡◌, sym, ◌∙◌, arith}
 use Rattle.session.specs.Links.{IsToLink}
 use Rattle.session.specs.Safe.{root_of}
 use Rattle.session.proofs.Drafts.{has_draft, root_is}
-use Rattle.session.proofs.Linking.{fails_by, tries_by, zero_call}
+use Rattle.session.proofs.Linking.{fails_by, tried_rest, tries_by, zero_call}
 use Rattle.session.proofs.course.Course.set_link.Goals as goal
 
 pub returns-then-get-eq0 : goal.returns-then-get-eq0
@@ -45,4 +45,4 @@ returns g c =
       images_unwritten = e.images_unwritten;
       size = e.size;
     })
-    e.counted e.later (fails_by b common.store c.test_and_set-tested.new.self c.root.result top c.test_and_set-tested.result e.unread e.stopped))
+    (tried_rest b common.store c.test_and_set-tested.new.self c.test_and_set-tested.result e.rest e.rest_kept) e.counted e.later (fails_by b common.store c.test_and_set-tested.new.self c.root.result top c.test_and_set-tested.result e.unread e.stopped))

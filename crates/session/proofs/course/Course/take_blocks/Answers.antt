@@ -15,7 +15,7 @@ returns-then-self-gt0 g c =
 pub returns-in-Ok : goal.returns-in-Ok
 returns-in-Ok g c =
     taken_call g.B.Blocks c.args.script.now c.args.common.now c.args.self.now c.requires.ready c.requires.draft c.serial.result c.serial.ensures
-    c.plan-in-Ok.new.common c.plan-in-Ok.new.self c.plan-in-Ok.result (omega arith) c.hold.new.common c.hold.new.self c.in-Ok.ensures.taken c.plan-in-Ok.ensures
+    c.plan-in-Ok.new.common c.plan-in-Ok.new.self c.plan-in-Ok.result (omega arith) c.hold.new.common c.hold.new.self c.in-Ok.ensures.taken c.in-Ok.ensures.held.3 c.plan-in-Ok.ensures
 
 pub returns-in-Err : goal.returns-in-Err
 returns-in-Err g c =

@@ -15,7 +15,7 @@ returns-in-Some g c =
     let beside : IsSameBeside s t = beside_settled s t c.args.walk more e in
     moved_call b (IsWalkingBy c.args.walk) (IsWalkingBy more) script common common c.feed_walk.new.common s t c.feed_walk.new.self c.feed_walk.result c.requires.ready.line
     (settles_move b script common s t c.requires.ready c.requires.draft e.same beside c.args.walk more e)
-    (c.feed_walk.ensures script (ready_then b script common s t c.requires.ready c.requires.draft e.same beside))
+    (c.feed_walk.ensures script (ready_then b script common s t c.requires.ready c.requires.draft e.same beside)) beside.turns
 
 pub returns-in-None : goal.returns-in-None
 returns-in-None g c =
@@ -29,4 +29,4 @@ returns-in-None g c =
     let beside : IsSameBeside s t = beside_settled s t c.args.walk more e in
     moved_call b (IsWalkingBy c.args.walk) (IsWalkingBy more) script common common c.end_walk.new.common s t c.end_walk.new.self c.end_walk.result c.requires.ready.line
     (settles_move b script common s t c.requires.ready c.requires.draft e.same beside c.args.walk more e)
-    c.end_walk.ensures
+    c.end_walk.ensures beside.turns

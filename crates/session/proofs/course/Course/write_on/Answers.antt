@@ -1,10 +1,9 @@
-use Rattle.std.proofs.Common.{subst, sym}
+use Rattle.std.proofs.Common.{subst}
 use Rattle.session.specs.Calls.{TurnCall}
 use Rattle.session.specs.Own.{IsWritingBy}
-use Rattle.session.specs.declared.turned.Turned.TheVariants as turned
 use Rattle.session.proofs.BlockLaws.{BlockLaws, block_laws}
 use Rattle.session.proofs.WritingOut.{block_within, gate_open, gives, its_place, more_safe}
-use Rattle.session.proofs.WrittenPages.{failed_by, written_call}
+use Rattle.session.proofs.WrittenPages.{failed_by, written_by}
 use Rattle.session.proofs.course.Course.write_on.Given as given
 use Rattle.session.proofs.course.Course.write_on.Goals as goal
 
@@ -30,10 +29,9 @@ returns-in-Ok g c =
     let flush = c.args.flush in
     let more = c.next.new.self in
     let place = its_place b script common s c.requires.ready c.requires.draft flush more c.in-Some.at c.next.new.into c.requires.flush c.in-Some.ensures.gives in
-    subst (λ x. TurnCall b (IsWritingBy flush) script common c.write.new.self s x turned.Again) (sym c.go_on.ensures)
-    (written_call b (laws g) script common c.write.new.self s c.requires.ready c.requires.draft flush more c.in-Some.at place.0 c.next.new.into _ place.1 c.write.ensures.alone
+    written_by b (laws g) script common c.write.new.self s c.requires.ready c.requires.draft flush more c.in-Some.at place.0 c.next.new.into _ place.1 c.write.ensures.alone
     (more_safe b script common s c.requires.ready c.requires.draft flush more c.in-Some.at c.next.new.into c.requires.flush c.in-Some.ensures.gives)
-    (gives b script common s c.requires.ready c.requires.draft flush more c.in-Some.at c.next.new.into c.requires.flush c.in-Some.ensures.gives) c.go_on.new.self.turns c.in-Ok.ensures)
+    (gives b script common s c.requires.ready c.requires.draft flush more c.in-Some.at c.next.new.into c.requires.flush c.in-Some.ensures.gives) c.go_on.new.self c.go_on.ensures c.in-Ok.ensures
 
 pub returns-in-Err : goal.returns-in-Err
 returns-in-Err g c =
