@@ -35,6 +35,7 @@ use Rattle.ground_model.proofs.Lines.{became, changes_only}
 use Rattle.ground_model.proofs.LinkTurns.{moments_by}
 use Rattle.ground_model.proofs.QuietTurns.{same_held}
 use Rattle.ground_model.proofs.Steps.{leaves_go_on, line_step_leads, there_twice}
+use Rattle.ground_model.proofs.Shows.{root_within}
 use Rattle.ground_model.proofs.Turning.{turn_stands}
 
 -- a commit's entry at this moment and its answer are all that a turn noted
@@ -63,7 +64,7 @@ module _ {D : Type 0} (b : Ghosts D) (settled_left : (s : D) (n : ℕ) (f : Cont
   early =
       let by : scene.standing.moment ≤ b.moment before =
       subst (λ (s : Standing). s.moment ≤ b.moment before) st.reaches.leads (moments_by scripts (start opening scripts) es (b.moment before) (omega arith) st.past) in
-      let later = turn.put.images.later in
+      let later = turn.put.later in
       omega (arith, by, later)
 
   pub link : (mid : Scene) × IsLinkedTo scripts k scene mid commits (b.content after) states × HeadsGoOn scene mid w.object turn.top (need u)
@@ -150,7 +151,7 @@ module _ {D : Type 0} (b : Ghosts D) (settled_left : (s : D) (n : ℕ) (f : Cont
   pub stands_then : Stands b opening scripts first new after (es ++ commits ∷ answers ∷ [])
   stands_then =
       turn_stands b settled_left opening scripts first scene new before after es (commits ∷ answers ∷ []) st (record {
-        operation = inr (turn.root, turn.bytes, turn.put);
+        operation = inr (turn.root, turn.bytes, root_within scene k w turn.root turn.tree turn.draft turn.plan st.shared turn.written, turn.put);
         content = refl;
         most = to.most;
         blocks = to.blocks;

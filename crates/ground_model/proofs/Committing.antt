@@ -1,5 +1,5 @@
 -- The link of a commit of one file that is merged and written: the scene after it.
-use Rattle.std.proofs.Common.{◌≡◌, ◌⊎◌, inl, inr, ℕ, zero, suc, ◌+◌, ◌-◌, ◌≤◌, Bool, true, false, List, [], ◌∷◌, ◌++◌, length, Some, refl, sym, ap, ◌∙◌, subst, arith, slice_get}
+use Rattle.std.proofs.Common.{◌≡◌, ◌≢◌, ◌⊎◌, inl, inr, ℕ, zero, suc, ◌+◌, ◌-◌, ◌≤◌, Bool, true, false, List, [], ◌∷◌, ◌++◌, length, Some, Ok, refl, sym, ap, ◌∙◌, subst, arith, slice_get}
 use Rattle.std.specs.Prelude.{option_map, None, filter, if◌then◌else◌, slice_set}
 use Rattle.std.specs.List.{sum_by}
 use Rattle.std.proofs.lemmas.List.{length-map}
@@ -25,8 +25,8 @@ use Rattle.recovery.specs.Opening.{heads_of}
 use Rattle.store_changes.specs.Stands.{IsPlace, own_in}
 use Rattle.store_check.specs.Files.{own_pages}
 use Rattle.store_changes.specs.Writes.{Content}
-use Rattle.store_model.specs.Changes.{LiesIn, NextVersion, Rewrites, changed_at, file_committed, with_commit, with_version}
-use Rattle.store_model.specs.Found.{file_in, state_in, version_in}
+use Rattle.store_model.specs.Changes.{IsTop, LiesIn, NextVersion, Rewrites, changed_at, file_committed, with_commit, with_version}
+use Rattle.store_model.specs.Found.{LaidStore, file_in, laid, state_in, version_in}
 use Rattle.store_model.specs.Laid.{LaidFile, LaidVersion, Node, last_laid, page_in}
 use Rattle.store_model.specs.Laws.{pages_of}
 use Rattle.store_model.specs.Members.{names_none}
@@ -37,6 +37,7 @@ use Rattle.tree_model.specs.Accesses.{fresh_as_top, written_paths}
 use Rattle.tree_model.specs.Trees.{Tree, tree_after}
 use Rattle.version_chain.specs.Flush.{Plan, base_of}
 use Rattle.ground_model.specs.Commits.{CommitLinks, HeadsGoOn, head_after, IsLinkedTo, IsWritten, MayCommit, commit_entry}
+use Rattle.store_model.proofs.Edits.{changed_other}
 use Rattle.ground_model.specs.Own.{IsHeldBy}
 use Rattle.ground_model.specs.Scenes.{Scene, HasVersion, IsAsMade, IsLinking, IsMadeOf, IsShared, held_by}
 use Rattle.ground_model.specs.Steps.{IsLatest, IsLinkSet, IsNoted}
@@ -48,6 +49,8 @@ use Rattle.ground_model.proofs.HeldWrites.{held_is_free}
 use Rattle.ground_model.proofs.MadeOf.{flush_makes}
 use Rattle.ground_model.proofs.Latest.{appended, entry_is, last_is, last_tree_is, last_version_is, same_version, serial_low}
 use Rattle.ground_model.proofs.Steps.{link_leads}
+use Rattle.ground_model.proofs.TopsLeft.{tops_were}
+use Rattle.ground_model.proofs.Turning.{same_laid}
 
 module _ (scripts : Scripts) (k : ℕ) (old : Scene) (line : Line) (u : Update) (w : Work) (root top : ℕ) (tree : Tree) (d : View) (plan : Plan) (content : Content) (states : List BlockState) (at : ℕ)
     (shared : IsShared old) (sound : IsSound scripts old.standing) (may : MayCommit scripts old.standing k line u w) (done : IsWritten old k w root tree d plan)
@@ -317,6 +320,34 @@ module _ (scripts : Scripts) (k : ℕ) (old : Scene) (line : Line) (u : Update) 
       let now : F (changed_at (file_committed read.0.block read.0) object old.store.files) =
       heads_now old.store object read.0.block read.0 done.merged.base.is.file last done.merged.base.is.listed last_here heads head are here (need u) need_is nx.serial in
       subst (λ b. slice_set heads object (Some (head_after head b (need u))) ≡ heads_of ready.0.next.linked.files) (sym block) (subst F named now)
+
+  -- ---- other files
+
+  other_files : (o : ℕ) → o ≢ w.object - 1 → slice_get ready.0.next.linked.files o ≡ slice_get old.store.files o
+  other_files o ne =
+      ap (λ (fs : List LaidFile). slice_get fs o) (alone old.content old.store old.places ready.0.next (ap names_none ready.0.version_is ∙ ready.1)).files_are
+      ∙ changed_other (file_committed ready.0.next.block ready.0.next.version) ready.0.next.object o old.store.files (λ e. ne (e ∙ ready.0.object_is))
+
+  -- the files of other objects are as they were, in whatever was laid out
+  pub others_are_left : (after : LaidStore) (order : List ℕ) → laid content old.most [] ≡ Ok (after, order) → (o : ℕ) → o ≢ w.object - 1 → slice_get after.files o ≡ slice_get old.store.files o
+  others_are_left after order there o ne =
+      ap (λ (s : LaidStore). slice_get s.files o) (same_laid (laid content old.most []) after _ order lies.order there lies.laid).0 ∙ other_files o ne
+
+  -- so are the versions that name members
+  pub tops_are_left : (after : LaidStore) (order : List ℕ) → laid content old.most [] ≡ Ok (after, order) → (v : LaidVersion) (t : IsTop after v) → (was : IsTop old.store v) × (was.object ≡ t.object)
+  tops_are_left after order there v t =
+      let none : names_none ready.0.next.version ≡ true = ap names_none ready.0.version_is ∙ ready.1 in
+      let files = (alone old.content old.store old.places ready.0.next none).files_are in
+      let one_more : LaidStore = record old.store { files = changed_at (file_committed ready.0.next.block ready.0.next.version) ready.0.next.object old.store.files } in
+      let same : after ≡ one_more =
+      (same_laid (laid content old.most []) after _ order lies.order there lies.laid).0 ∙ ap (λ (fs : List LaidFile). (let s : LaidStore = record old.store { files = fs } in s)) files in
+      let F : LaidStore → Type 0 = λ s. (x : IsTop s v) → (was : IsTop old.store v) × (was.object ≡ x.object) in
+      subst F (sym same)
+      (tops_were old.store ready.0.next.object ready.0.next.block ready.0.next.version ready.0.next.file ready.0.next.base ready.0.next.listed ready.0.next.last none v) t
+
+  -- nobody sets links of this one
+  pub unlinked_now : IsLinking old.standing w.object → ⊥
+  unlinked_now l = nobody_links (subst (λ o. IsLinking old.standing o) (sym counts) l)
 
 pub commit_links : CommitLinks
 commit_links scripts k old line u w root top tree d plan content states at shared sound may done top_is rewrites kept late = (

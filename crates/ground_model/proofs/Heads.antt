@@ -21,19 +21,19 @@ told_changed tell change zero (y ∷ ys) x h = ap (λ z. tell (change z) ∷ map
 told_changed tell change (suc k) (y ∷ ys) x h = ap (λ zs. tell y ∷ zs) (told_changed tell change k ys x h)
 
 -- what is told of a file whose last version this is
-abbrev told_of : List LaidVersion → LaidVersion → Head
+abbrev pub told_of : List LaidVersion → LaidVersion → Head
 told_of versions last = record { block = last.block; first = first_serial versions; serial = last.serial; kept = kept_by versions }
 
-told : (versions : List LaidVersion) (last : LaidVersion) → last_laid versions ≡ Some last → head_of versions ≡ Some (told_of versions last)
+pub told : (versions : List LaidVersion) (last : LaidVersion) → last_laid versions ≡ Some last → head_of versions ≡ Some (told_of versions last)
 told versions last is = ap (option_map (told_of versions)) is
 
-first_same : (block k : ℕ) (versions : List LaidVersion) (base next : LaidVersion) → slice_get versions k ≡ Some base
+pub first_same : (block k : ℕ) (versions : List LaidVersion) (base next : LaidVersion) → slice_get versions k ≡ Some base
     → first_serial (changed_at (committed block) k versions ++ next ∷ []) ≡ first_serial versions
 first_same block k [] base next h = none_some h
 first_same block zero (v ∷ vs) base next h = refl
 first_same block (suc k) (v ∷ vs) base next h = refl
 
-kept_same : (block k : ℕ) (versions : List LaidVersion) → kept_by (changed_at (committed block) k versions) ≡ kept_by versions
+pub kept_same : (block k : ℕ) (versions : List LaidVersion) → kept_by (changed_at (committed block) k versions) ≡ kept_by versions
 kept_same block k [] = refl
 kept_same block zero (v ∷ vs) =
     let one : kept_by (committed block v ∷ vs) ≡ own_pages v + kept_by vs = sum_by-cons own_pages (committed block v) vs in
@@ -45,7 +45,7 @@ kept_same block (suc k) (v ∷ vs) =
     let two : kept_by (v ∷ vs) ≡ own_pages v + kept_by vs = sum_by-cons own_pages v vs in
     one ∙ ap (λ n. own_pages v + n) rest ∙ sym two
 
-same_head : (a b : Head) → a.block ≡ b.block → a.first ≡ b.first → a.serial ≡ b.serial → a.kept ≡ b.kept → a ≡ b
+pub same_head : (a b : Head) → a.block ≡ b.block → a.first ≡ b.first → a.serial ≡ b.serial → a.kept ≡ b.kept → a ≡ b
 same_head a b block first serial kept =
     ap (λ n. (let h : Head = record { block = n; first = a.first; serial = a.serial; kept = a.kept } in h)) block
     ∙ ap (λ n. (let h : Head = record { block = b.block; first = n; serial = a.serial; kept = a.kept } in h)) first

@@ -1,8 +1,10 @@
 -- A run that a fault stopped in the write of a block that the client holds.
-use Rattle.std.proofs.Common.{◌≡◌, ◌≢◌, inl, ℕ, ◌<◌, ◌≤◌, Bool, true, false, cond, nat_eq, List, [], ◌++◌, Some, None, Ok, refl, sym, ap, ◌∙◌, subst, arith, ne_eqb}
+use Rattle.std.proofs.Common.{◌≡◌, ◌≢◌, inl, inr, ℕ, ◌<◌, ◌≤◌, Bool, true, false, cond, nat_eq, List, [], ◌++◌, Some, None, Ok, refl, sym, ap, ◌∙◌, subst, arith, ne_eqb}
 use Rattle.std.proofs.lemmas.Bool.{eqb-false}
 use Rattle.block_map.specs.declared.states.BlockState.{BlockState}
 use Rattle.flush_model.specs.Flushed.{IsFree}
+use Rattle.drives.specs.Changes.{Changes}
+use Rattle.pair_store.specs.Blocks.{OldOrNew}
 use Rattle.pair_store.specs.declared.store.Blocks.{Ghosts}
 use Rattle.service_model.specs.declared.journal.Entry.{Entry}
 use Rattle.service_model.specs.declared.journal.Journal.{Journal}
@@ -21,9 +23,10 @@ use Rattle.ground_model.specs.Runs.{Stands, images_of}
 use Rattle.ground_model.specs.Scenes.{Scene}
 use Rattle.ground_model.specs.Stops.{HasStopped}
 use Rattle.ground_model.proofs.Fronts.{turn_recovers}
-use Rattle.ground_model.proofs.HeldWrites.{held_is_free}
+use Rattle.ground_model.proofs.HeldWrites.{held_is_free, past_end}
 use Rattle.ground_model.proofs.Lines.{changes_only}
 use Rattle.ground_model.proofs.Steps.{line_step_leads}
+use Rattle.ground_model.proofs.Turning.{never_fronts}
 use Rattle.ground_model.proofs.Writes.{SameBelow, below_found}
 
 -- contents that agree with those of a store below its number of blocks, but in a free block, stand for the same files
@@ -73,18 +76,23 @@ module _ {D : Type 0} (b : Ghosts D) (settled_left : (s : D) (n : ℕ) (f : Cont
   found_of f same = free_found scene.content f scene.most scene.store scene.places st.shared.some st.shared.laid block free same
 
   -- every crash from the turn on leaves the files as they were
-  image : (t : ℕ) (x : Content) → b.moment before ≤ t → t ≤ b.moment after → b.may_leave after t x → found x scene.most ≡ Ok (state_in scene.store)
-  image t x low high may =
-      let from = turn.images.own t x low high may in
-      found_of x (λ n ne small. from.2.others n ne ∙ settled_left before n from.0 (st.settled n small) from.1 ∙ ap (λ (f : Content). f n) (sym st.content))
+  image : ((n : ℕ) → n < scene.store.root.blocks → b.settled_always before n) → (changes : Changes b.moment b.may_leave before after (OldOrNew block bytes))
+      → (t : ℕ) (x : Content) → b.moment before ≤ t → t ≤ b.moment after → b.may_leave after t x → found x scene.most ≡ Ok (state_in scene.store)
+  image always changes t x low high may =
+      let from = changes.own t x low high may in
+      found_of x (λ n ne small. from.2.others n ne ∙ settled_left before n from.0 (always n small) from.1 ∙ ap (λ (f : Content). f n) (sym st.content))
 
-  leaves : TurnLeaves (images_of b scene.most) before after (state_in scene.store) (state_in scene.store)
-  leaves = record {
-    later = turn.images.later;
-    past = λ t x low may. (turn.images.past t x (omega (arith, low)) (let l = turn.images.later in omega (arith, low, l))).0 may;
-    within = λ t x low high may. inl (image t x low (omega (arith, high)) may);
-    last = λ x may. image (b.moment after) x turn.images.later (omega arith) may;
+  leaves : ((n : ℕ) → n < scene.store.root.blocks → b.settled_always before n) → Changes b.moment b.may_leave before after (OldOrNew block bytes)
+      → TurnLeaves (images_of b scene.most) before after (state_in scene.store) (state_in scene.store)
+  leaves always changes = record {
+    later = changes.later;
+    past = λ t x low may. (changes.past t x (omega (arith, low)) (let l = changes.later in omega (arith, low, l))).0 may;
+    within = λ t x low high may. inl (image always changes t x low (omega (arith, high)) may);
+    last = λ x may. image always changes (b.moment after) x changes.later (omega arith) may;
   }
+
+  within : block < scene.store.root.blocks
+  within = subst (λ n. block < n) (turn.map.size ∙ st.shared.map.size) (past_end states block k turn.mine)
 
   reaches : Reaches opening scripts (es ++ fs) standing
   reaches = reaches_more opening scripts es fs scene.standing st.reaches turn.notes.legal
@@ -99,10 +107,13 @@ module _ {D : Type 0} (b : Ghosts D) (settled_left : (s : D) (n : ℕ) (f : Cont
   after_is = state_is ∙ sym (ap (λ (s : Standing). s.state) reaches.leads)
 
   fronts : AllFronts (images_of b scene.most) opening scripts first after (es ++ fs)
-  fronts =
-      let F : State → State → Type 0 = λ x y. TurnLeaves (images_of b scene.most) before after x y in
-      turn_recovers opening scripts (images_of b scene.most) first before after es fs st.fronts st.past
-      (subst (λ y. F (serial_state opening scripts es) y) after_is (subst (λ x. F x (state_in scene.store)) before_is leaves)) turn.moments
+  fronts = elim st.calm [
+    | inl always ↦
+        let F : State → State → Type 0 = λ x y. TurnLeaves (images_of b scene.most) before after x y in
+        turn_recovers opening scripts (images_of b scene.most) first before after es fs st.fronts st.past
+        (subst (λ y. F (serial_state opening scripts es) y) after_is (subst (λ x. F x (state_in scene.store)) before_is (leaves always (turn.images (always block within))))) turn.moments
+    | inr never ↦ never_fronts b scene.most opening scripts first after (es ++ fs) never
+  ]
 
   size_is : b.size after ≡ scene.most
   size_is = turn.size ∙ sym st.most

@@ -20,6 +20,7 @@ use Rattle.ground_model.specs.Commits.{IsLinkedTo, commit_entry}
 use Rattle.ground_model.specs.Fronts.{AreOfTurn, is_by, is_change}
 use Rattle.ground_model.specs.Turns.{LinkTurnStands}
 use Rattle.ground_model.proofs.Committing.{commit_links}
+use Rattle.ground_model.proofs.Shows.{root_within}
 use Rattle.ground_model.proofs.Turning.{turn_stands}
 
 -- ---- moments
@@ -69,13 +70,13 @@ link_turn_stands b settled_left opening scripts first k scene before after es li
     let sound : IsSound scripts scene.standing = journal_sound opening scripts es scene.standing st.fitting.fit st.sayable st.reaches in
     let early : scene.standing.moment ≤ b.moment before =
     subst (λ (s : Standing). s.moment ≤ b.moment before) st.reaches.leads (moments_by scripts (start opening scripts) es (b.moment before) (omega arith) st.past) in
-    let later = turn.put.images.later in
+    let later = turn.put.later in
     let links = commit_links scripts k scene line u w turn.root turn.top turn.tree turn.draft turn.plan (b.content after) states (b.moment after)
     st.shared sound turn.may turn.written turn.first turn.rewrites turn.kept (omega (arith, early, later)) in
     let to : IsLinkedTo scripts k scene links.0 (commit_entry scene.standing k line u (b.moment after)) (b.content after) states = links.1 in (
       links.0,
       turn_stands b settled_left opening scripts first scene links.0 before after es (commit_entry scene.standing k line u (b.moment after) ∷ []) st (record {
-        operation = inr (turn.root, turn.bytes, turn.put);
+        operation = inr (turn.root, turn.bytes, root_within scene k w turn.root turn.tree turn.draft turn.plan st.shared turn.written, turn.put);
         content = to.content_is;
         most = to.most;
         blocks = to.blocks;

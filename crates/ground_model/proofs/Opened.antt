@@ -13,17 +13,18 @@ use Rattle.recovery.specs.Opening.{IsOpening}
 use Rattle.script_text.specs.ScriptValue.{ScriptValue}
 use Rattle.service_model.specs.Sound.{AreSayable}
 use Rattle.service_model.specs.Standing.{Scripts, Client, newcomer, start, client_of}
-use Rattle.store_changes.specs.Writes.{Content}
 use Rattle.store_check.specs.Marks.{Marks, mark_of, is_kept}
 use Rattle.store_model.specs.Changes.{IsTop}
 use Rattle.store_model.specs.Found.{found, state_in, state_of}
 use Rattle.store_model.specs.Laid.{LaidVersion}
 use Rattle.tree_model.specs.States.{State}
-use Rattle.ground_model.specs.Fronts.{IsFront}
-use Rattle.ground_model.specs.Opened.{Begins, OpenedBegins}
+use Rattle.ground_model.specs.Fronts.{AllFronts}
+use Rattle.ground_model.specs.Opened.{Begins, IsOpenedFrom, OpenedBegins}
+use Rattle.ground_model.specs.Runs.{IsCalm, images_of}
 use Rattle.ground_model.specs.Scenes.{Scene, IsMapped, IsShared, AreLinksOf, held_by}
 use Rattle.ground_model.proofs.Fitting.{opened_is_fitting}
 use Rattle.ground_model.proofs.Seals.{table_tells}
+use Rattle.ground_model.proofs.Turning.{never_fronts}
 
 -- ---- no client has begun
 
@@ -77,7 +78,7 @@ module _ (places : List ℕ) (states : List BlockState) (marks : Marks places st
 
 -- ---- the scene
 
-module _ {D : Type 0} (b : Ghosts D) (o : OpenedOver D) (scripts : Scripts) (is : IsOpening b o) (sayable : AreSayable scripts) where
+module _ {D : Type 0} (b : Ghosts D) (o : OpenedOver D) (first : ℕ) (scripts : Scripts) (is : IsOpenedFrom b o first) (sayable : AreSayable scripts) where
   abbrev scene : Scene
   scene = record {
     content = b.content o.store;
@@ -140,28 +141,44 @@ module _ {D : Type 0} (b : Ghosts D) (o : OpenedOver D) (scripts : Scripts) (is 
     links = links_are;
   }
 
-  first_front : (t : ℕ) (f : Content) → o.since ≤ t → t ≤ b.moment o.store → b.may_leave o.store t f → IsFront (state_in is.opened.store) scripts [] t (found f (b.size o.store))
-  first_front t f low high may = record {
+  first_front : IsOpening b o → o.since ≡ first → AllFronts (images_of b (b.size o.store)) (state_in is.opened.store) scripts first o.store []
+  first_front opening from t f low high may = record {
     front = [];
     rest = [];
     whole = refl;
-    state = is.since t f low high may ∙ found_now;
+    state = opening.since t f (omega (arith, from, low)) high may ∙ found_now;
     acknowledged = refl;
     one = omega arith;
   }
 
-  pub opened_begins_here : Begins b o scripts scene
+  fronts : AllFronts (images_of b (b.size o.store)) (state_in is.opened.store) scripts first o.store []
+  fronts = elim is.images [
+    | inl spoken ↦ first_front spoken.0 spoken.1
+    | inr never ↦ never_fronts b (b.size o.store) (state_in is.opened.store) scripts first o.store [] never
+  ]
+
+  below : (n : ℕ) → n < is.opened.store.root.blocks → n < length o.map
+  below n low = (let size = is.opened.size in omega (arith, size, low))
+
+  calm : IsCalm b first is.opened.store.root.blocks o.store
+  calm = elim is.images [
+    | inl spoken ↦ inl (λ n low. spoken.0.always n (below n low))
+    | inr never ↦ inr never
+  ]
+
+  pub opened_begins_here : Begins b o first scripts scene
   opened_begins_here = record {
     stands = record {
       shared = shared;
       content = refl;
       most = refl;
-      settled = λ n low. is.always n (let size = is.opened.size in omega (arith, size, low));
+      settled = λ n low. is.settled n (below n low);
+      calm = calm;
       fitting = opened_is_fitting (b.content o.store) (b.size o.store) o.table o.map o.heads.items is.opened;
       sayable = sayable;
       reaches = record { legal = tt; leads = refl };
       past = refl;
-      fronts = first_front;
+      fronts = fronts;
     };
     opening = found_now;
     starts = refl;
@@ -178,4 +195,4 @@ module _ {D : Type 0} (b : Ghosts D) (o : OpenedOver D) (scripts : Scripts) (is 
   }
 
 pub opened_begins : {D : Type 0} (b : Ghosts D) → OpenedBegins b
-opened_begins b o scripts is sayable = (_, opened_begins_here b o scripts is sayable)
+opened_begins b o first scripts is sayable = (_, opened_begins_here b o first scripts is sayable)

@@ -1,5 +1,5 @@
 -- What blocks show to whoever reads them.
-use Rattle.std.proofs.Common.{◌≡◌, ◌==◌, ℕ, suc, ◌+◌, ◌-◌, ◌≤◌, Bool, true, false, cond, List, [], ◌∷◌, ◌++◌, length, Option, Some, None, Result, Ok, Err, option_map, refl, sym, ap, ◌∙◌, subst, arith, slice_index, length-append}
+use Rattle.std.proofs.Common.{◌≡◌, ◌==◌, ℕ, suc, ◌+◌, ◌-◌, ◌≤◌, Bool, true, false, cond, List, [], ◌∷◌, ◌++◌, length, Option, Some, None, Result, Ok, Err, option_map, refl, sym, ap, ◌∙◌, subst, arith, slice_index, length-append, ◌<◌}
 use Rattle.std.specs.Option.{option_and_then, option_map_or}
 use Rattle.std.specs.Ordering.{is_lt}
 use Rattle.afs_base.specs.Path.{path_cmp}
@@ -26,9 +26,12 @@ use Rattle.store_model.proofs.FoundStates.{versions_have_pages}
 use Rattle.store_model.proofs.Held.{versions_are_held}
 use Rattle.store_model.proofs.Reading.{reads_version}
 use Rattle.store_model.proofs.Rewriting.{bytes_of}
+use Rattle.version_chain.specs.Flush.{Plan}
+use Rattle.service_model.specs.Standing.{serial_of}
 use Rattle.tree_model.specs.Accesses.{Place, all_writes}
 use Rattle.tree_model.proofs.Paths.{or_left, same_self}
 use Rattle.tree_model.specs.Trees.{Tree, tree_after}
+use Rattle.ground_model.specs.Commits.{IsWritten}
 use Rattle.ground_model.specs.Own.{HasDraft, IsBase}
 use Rattle.ground_model.specs.Scenes.{Scene, HasVersion, IsShared}
 use Rattle.ground_model.specs.Shows.{BaseShows, IsPlaceOf, NeededShows, ShowsPage, ShowsVersion, VersionShows, WantedShows}
@@ -77,6 +80,12 @@ pub base_shows : BaseShows
 base_shows scene object serial root tree shared b =
     subst (λ n. ShowsVersion scene object serial n) b.block_is
     (subst (λ n. ShowsVersion scene object n b.version.block) b.serial_is (version_shows_here scene shared object b.version b.is))
+
+-- the version that a written draft was merged with lies in one of the blocks
+pub root_within : (scene : Scene) (k : ℕ) (w : Work) (root : ℕ) (tree : Tree) (d : View) (plan : Plan) → IsShared scene → IsWritten scene k w root tree d plan
+    → root < scene.store.root.blocks
+root_within scene k w root tree d plan shared written =
+    (base_shows scene w.object (serial_of scene.standing.state w.object) root tree shared written.merged.base).lies.high
 
 -- ---- pages below them
 

@@ -1,5 +1,5 @@
 -- What is kept of a run that a fault stopped.
-use Rattle.std.proofs.Common.{◌≡◌, inl, inr, ℕ, List, [], ◌∷◌, ◌++◌, Some, None, Ok, refl, sym, ap, ◌∙◌, subst, arith, append-nil}
+use Rattle.std.proofs.Common.{◌≡◌, inl, inr, ℕ, ◌<◌, List, [], ◌∷◌, ◌++◌, Some, None, Ok, refl, sym, ap, ◌∙◌, subst, arith, append-nil}
 use Rattle.pair_store.specs.declared.store.Blocks.{Ghosts}
 use Rattle.service_model.specs.declared.journal.Entry.{Entry}
 use Rattle.service_model.specs.declared.journal.Journal.{Journal}
@@ -15,13 +15,15 @@ use Rattle.ground_model.specs.Runs.{Stands, images_of}
 use Rattle.ground_model.specs.Scenes.{Scene, IsShared}
 use Rattle.ground_model.specs.Stops.{HasStopped, IsFailedWrite, IsFoundAfter, ReadStops, WriteStops}
 use Rattle.ground_model.proofs.Fronts.{stop_recovers, turn_recovers}
+use Rattle.ground_model.proofs.Turning.{never_fronts}
 use Rattle.ground_model.proofs.Writes.{SameBelow, below_found, one_of_two, read_leaves, write_stops}
 
 module _ {D : Type 0} (b : Ghosts D) (settled_left : (s : D) (n : ℕ) (f : Content) → b.settled_always s n → b.may_leave s (b.moment s) f → f n ≡ b.content s n) where
-  -- what a crash leaves of a run that stands
+  -- what a crash leaves of a run that stands, where images are spoken of
   known : (opening : State) (scripts : Scripts) (first : ℕ) (scene : Scene) (before : D) (es : List Entry) → Stands b opening scripts first scene before es
-      → (f : Content) → b.may_leave before (b.moment before) f → SameBelow scene.store.root.blocks scene.content f
-  known opening scripts first scene before es st f may n low = settled_left before n f (st.settled n low) may ∙ ap (λ (c : Content). c n) (sym st.content)
+      → ((n : ℕ) → n < scene.store.root.blocks → b.settled_always before n) → (f : Content) → b.may_leave before (b.moment before) f
+      → SameBelow scene.store.root.blocks scene.content f
+  known opening scripts first scene before es st always f may n low = settled_left before n f (always n low) may ∙ ap (λ (c : Content). c n) (sym st.content)
 
   pub read_stops : ReadStops b
   read_stops opening scripts first scene before after journal st none read =
@@ -29,12 +31,16 @@ module _ {D : Type 0} (b : Ghosts D) (settled_left : (s : D) (n : ℕ) (f : Cont
       let now : state_in scene.store ≡ serial_state opening scripts es = st.shared.state ∙ sym (ap (λ (s : Standing). s.state) st.reaches.leads) in
       let size : b.size after ≡ scene.most = read.size ∙ sym st.most in
       let F : State → Type 0 = λ x. TurnLeaves (images_of b scene.most) before after x x in
-      let leaves : F (serial_state opening scripts es) =
-      subst F now (read_leaves b scene.most before after scene.content scene.store scene.places st.shared.some st.shared.laid (known opening scripts first scene before es st) read.images) in
       let H : List Entry → Type 0 = λ fs. TurnLeaves (images_of b scene.most) before after (serial_state opening scripts es) (serial_state opening scripts fs) in
       let fronts : AllFronts (images_of b scene.most) opening scripts first after es =
-      subst (λ fs. AllFronts (images_of b scene.most) opening scripts first after fs) (append-nil es)
-      (turn_recovers opening scripts (images_of b scene.most) first before after es [] st.fronts st.past (subst H (sym (append-nil es)) leaves) (record { moments = refl; one = omega arith })) in
+      elim st.calm [
+        | inl always ↦
+            let leaves : F (serial_state opening scripts es) =
+            subst F now (read_leaves b scene.most before after scene.content scene.store scene.places st.shared.some st.shared.laid (known opening scripts first scene before es st always) read.images) in
+            subst (λ fs. AllFronts (images_of b scene.most) opening scripts first after fs) (append-nil es)
+            (turn_recovers opening scripts (images_of b scene.most) first before after es [] st.fronts st.past (subst H (sym (append-nil es)) leaves) (record { moments = refl; one = omega arith }))
+        | inr never ↦ never_fronts b scene.most opening scripts first after es never
+      ] in
       let same : SameBelow scene.store.root.blocks scene.content (b.content after) = λ n low. read.same n ∙ ap (λ (c : Content). c n) (sym st.content) in
       record {
         standing = scene.standing;
@@ -55,10 +61,10 @@ module _ {D : Type 0} (b : Ghosts D) (settled_left : (s : D) (n : ℕ) (f : Cont
     laid_there : laid new.content old.most [] ≡ Ok (new.store, new.places)
     laid_there = subst (λ m. laid new.content m [] ≡ Ok (new.store, new.places)) failed.most shared.laid
 
-    stops : TurnStops (images_of b old.most) before after (state_in old.store) (state_in new.store)
-    stops =
-        write_stops b old.most before after old.content old.store old.places st.shared.some st.shared.laid (known opening scripts first old before journal.entries.items st)
-        new.content block bytes failed.others failed.here new.store new.places laid_there failed.blocks failed.images
+    stops : ((n : ℕ) → n < old.store.root.blocks → b.settled_always before n) → TurnStops (images_of b old.most) before after (state_in old.store) (state_in new.store)
+    stops always =
+        write_stops b old.most before after old.content old.store old.places st.shared.some st.shared.laid (known opening scripts first old before journal.entries.items st always)
+        new.content block bytes failed.others failed.here new.store new.places laid_there failed.blocks (failed.images (always block failed.within))
 
     reached : Reaches opening scripts (journal.entries.items ++ e ∷ []) (after_entry scripts old.standing e)
     reached = reaches_next opening scripts journal.entries.items old.standing e st.reaches lawful
@@ -70,17 +76,19 @@ module _ {D : Type 0} (b : Ghosts D) (settled_left : (s : D) (n : ℕ) (f : Cont
     after_is = shared.state ∙ ap (λ (s : Standing). s.state) leads ∙ sym (ap (λ (s : Standing). s.state) reached.leads)
 
     recovered : AllRecovered (images_of b old.most) opening scripts first after journal
-    recovered =
-        let F : State → State → Type 0 = λ x y. TurnStops (images_of b old.most) before after x y in
-        stop_recovers opening scripts (images_of b old.most) first before after journal e st.fronts st.past doubt
-        (subst (λ y. F (serial_state opening scripts journal.entries.items) y) after_is (subst (λ x. F x (state_in new.store)) before_is stops))
+    recovered = elim st.calm [
+      | inl always ↦
+          let F : State → State → Type 0 = λ x y. TurnStops (images_of b old.most) before after x y in
+          stop_recovers opening scripts (images_of b old.most) first before after journal e st.fronts st.past doubt
+          (subst (λ y. F (serial_state opening scripts journal.entries.items) y) after_is (subst (λ x. F x (state_in new.store)) before_is (stops always)))
+      | inr never ↦ λ t x low high may. inl (never_fronts b old.most opening scripts first after journal.entries.items never t x low high may)
+    ]
 
     -- what is found now
     found_now : (x : State) × (found (b.content after) (b.size after) ≡ Ok x) × IsFoundAfter scripts old.standing journal.doubt x
     found_now =
         let was : SameBelow old.store.root.blocks old.content (b.content before) = λ n low. ap (λ (c : Content). c n) (sym st.content) in
-        elim (one_of_two b old.most before after old.content old.store old.places st.shared.some st.shared.laid (known opening scripts first old before journal.entries.items st)
-        new.content block bytes failed.others failed.here new.store new.places laid_there failed.blocks failed.images (b.content before) (b.content after) was failed.either) [
+        elim (one_of_two old.store.root.blocks old.content new.content block bytes failed.others failed.here (b.content before) (b.content after) was failed.either) [
           | inl same ↦ (
             state_in old.store,
             subst (λ m. found (b.content after) m ≡ Ok (state_in old.store)) (sym size) (below_found old.content (b.content after) old.most old.store old.places st.shared.some st.shared.laid same),

@@ -41,7 +41,7 @@ use Rattle.ground_model.specs.Tests.{HasTested, IsSetBy, IsTorn, LinkCame, LinkS
 use Rattle.ground_model.proofs.Committing.{commit_links}
 use Rattle.ground_model.proofs.LinkTurns.{moments_by}
 use Rattle.ground_model.proofs.Naming.{commit_names}
-use Rattle.ground_model.proofs.Shows.{base_shows}
+use Rattle.ground_model.proofs.Shows.{base_shows, root_within}
 use Rattle.ground_model.proofs.Stopping.{write_stops_run}
 
 -- ---- where nothing was written
@@ -51,7 +51,8 @@ read_only : {D : Type 0} (b : Ghosts D) → b.tells → (before after : D) (n ne
 read_only b told before after n next result t alone untorn = record {
   size = t.size;
   same = t.unwritten told alone;
-  settled = λ k s. t.kept_always untorn k (inr alone) s;
+  settled = λ k s. t.kept told untorn k (inr alone) s;
+  settled_always = λ k s. t.kept_always untorn k (inr alone) s;
   images = t.images_unwritten alone;
 }
 
@@ -63,8 +64,7 @@ not_ok e x h = cc
 
 -- ---- what it came to
 
-module _ {D : Type 0} (b : Ghosts D) (told : b.tells) (settled_now : (s : D) (n : ℕ) → b.settled_always s n → b.settled s n)
-    (whole : (s : D) (n : ℕ) (body : List ℕ) → n < b.size s → b.content s n ≡ Some body → IsBlock body) where
+module _ {D : Type 0} (b : Ghosts D) (told : b.tells) (whole : (s : D) (n : ℕ) (body : List ℕ) → n < b.size s → b.content s n ≡ Some body → IsBlock body) where
   module _ (opening : State) (scripts : Scripts) (first : ℕ) (scene : Scene) (before after : D) (es : List Entry) (object serial root top : ℕ) (tree : Tree)
       (st : Stands b opening scripts first scene before es) (base : IsBase scene object serial root tree) (free : IsLinking scene.standing object → ⊥)
       (low : 1 ≤ top) (high : top < 2 ^ 28) where
@@ -85,8 +85,8 @@ module _ {D : Type 0} (b : Ghosts D) (told : b.tells) (settled_now : (s : D) (n 
     linked : version_of (commit_bytes top shown.body) ≡ Ok (with_commit top shown.page)
     linked = read_committed shown.body shown.page top block shown.reads low high
 
-    always : b.settled_always before root
-    always = st.settled root shown.lies.high
+    sure : b.settled before root
+    sure = st.settled root shown.lies.high
 
     names : NamesNext scene object serial shown.page.commit
     names = commit_names scene object serial root tree shown.page st.shared free base shown.held
@@ -105,23 +105,28 @@ module _ {D : Type 0} (b : Ghosts D) (told : b.tells) (settled_now : (s : D) (n 
 
     set_here : HasTested b before after root top (Ok Set) → IsSetBy b scene before after object serial root top
     set_here t = record {
-      last = names.none (found_page None (t.answer told (settled_now before root always)));
+      last = names.none (found_page None (t.answer told sure));
       bytes = commit_bytes top shown.body;
       put = record {
         size = t.size;
-        here = t.written told (settled_now before root always) shown.body here tt;
+        here = t.written told sure shown.body here tt;
         others = t.others told;
         settled = λ n s. elim (cases_eq n root) [
+          | inl e ↦ subst (λ m. b.settled after m) (sym e) (t.settles told tt)
+          | inr ne ↦ t.kept told tt n (inl ne) s
+        ];
+        settled_always = λ n s. elim (cases_eq n root) [
           | inl e ↦ subst (λ m. b.settled_always after m) (sym e) (t.settles_always told tt)
           | inr ne ↦ t.kept_always tt n (inl ne) s
         ];
-        images = t.images told always shown.body here;
+        later = t.later;
+        images = λ always. t.images told always shown.body here;
       };
       rewrites = record {
         page = shown.page;
         was = shown.held;
         is =
-            ap (option_and_then (λ bytes. read_of (version_of bytes))) (t.written told (settled_now before root always) shown.body here tt)
+            ap (option_and_then (λ bytes. read_of (version_of bytes))) (t.written told sure shown.body here tt)
             ∙ ap read_of linked;
         others = λ n ne. ap (λ (c : Content). c n) st.content ∙ sym (t.others told n ne);
       };
@@ -129,26 +134,27 @@ module _ {D : Type 0} (b : Ghosts D) (told : b.tells) (settled_now : (s : D) (n 
 
     torn_here : (half : Half) → HasTested b before after root top (Err (WriteFault half)) → IsTorn b scene before after object serial root top
     torn_here half t = record {
-      last = names.none (found_page None (t.answer told (settled_now before root always)));
+      last = names.none (found_page None (t.answer told sure));
       page = shown.page;
       was = shown.held;
       bytes = commit_bytes top shown.body;
       linked = linked;
       size = t.size;
-      either = t.either told (settled_now before root always) shown.body here;
-      images = t.images told always shown.body here;
+      either = t.either told sure shown.body here;
+      later = t.later;
+      images = λ always. t.images told always shown.body here;
     }
 
     came : (result : Result Tas PairFault) → HasTested b before after root top result → LinkCame b scene before after object serial root top result
     came (Ok Set) t = set_here t
     came (Ok (Taken by)) t = record {
-      next = names.some by (found_page (Some by) (t.answer told (settled_now before root always)));
+      next = names.some by (found_page (Some by) (t.answer told sure));
       read = read_only b told before after root top (Ok (Taken by)) t tt tt;
     }
     came (Err (ReadFault half)) t = read_only b told before after root top (Err (ReadFault half)) t tt tt
     came (Err (WriteFault half)) t = torn_here half t
-    came (Err (BothClosed n)) t = none_some (sym (t.answer told (settled_now before root always)).1 ∙ here)
-    came (Err (BadPage n why)) t = never_bad why (t.answer told (settled_now before root always)).1
+    came (Err (BothClosed n)) t = none_some (sym (t.answer told sure).1 ∙ here)
+    came (Err (BadPage n why)) t = never_bad why (t.answer told sure).1
 
   pub set_rewrites : SetRewrites b
   set_rewrites opening scripts first scene before after es object serial root top tree result st base free low high t =
@@ -166,10 +172,10 @@ merged_is_written scene k w upto root tree d plan merged flush all alone number 
 }
 
 -- what a client held is kept
-replaced : ℕ → List BlockState → List BlockState
+pub replaced : ℕ → List BlockState → List BlockState
 replaced k states = map (λ (s : BlockState). cond (is_held k s) Kept s) states
 
-replaces : (k : ℕ) (states : List BlockState) → Replaces k Kept states (replaced k states)
+pub replaces : (k : ℕ) (states : List BlockState) → Replaces k Kept states (replaced k states)
 unfolding replaced
 replaces k states = record { size = length-map states (λ (s : BlockState). cond (is_held k s) Kept s); states = each states }
   where
@@ -179,14 +185,14 @@ replaces k states = record { size = length-map states (λ (s : BlockState). cond
     each (x ∷ xs) (suc n) = each xs n
 
 -- the contents with other bytes in one block
-written_in : Content → ℕ → List ℕ → Content
+pub written_in : Content → ℕ → List ℕ → Content
 written_in c block bytes n = cond (nat_eq n block) (Some bytes) (c n)
 
-here_now : (c : Content) (block : ℕ) (bytes : List ℕ) → written_in c block bytes block ≡ Some bytes
+pub here_now : (c : Content) (block : ℕ) (bytes : List ℕ) → written_in c block bytes block ≡ Some bytes
 unfolding written_in
 here_now c block bytes = ap (λ t. cond t (Some bytes) (c block)) (eq-eqb block block refl)
 
-others_then : (c : Content) (block : ℕ) (bytes : List ℕ) (n : ℕ) → n ≢ block → written_in c block bytes n ≡ c n
+pub others_then : (c : Content) (block : ℕ) (bytes : List ℕ) (n : ℕ) → n ≢ block → written_in c block bytes n ≡ c n
 unfolding written_in
 others_then c block bytes n ne = ap (λ t. cond t (Some bytes) (c n)) (ne_eqb n block ne)
 
@@ -200,7 +206,7 @@ module _ {D : Type 0} (b : Ghosts D) (settled_left : (s : D) (n : ℕ) (f : Cont
   link_stops opening scripts first k scene before after journal line u w upto root top tree d plan st may written first_is torn doubt =
       let early = moments_by scripts (start opening scripts) journal.entries.items (b.moment before) (omega arith) st.past in
       let reached : scene.standing.moment ≤ b.moment before = subst (λ (s : Standing). s.moment ≤ b.moment before) st.reaches.leads early in
-      let later = torn.images.later in
+      let later = torn.later in
       let content : Content = written_in scene.content root torn.bytes in
       let rewrites : Rewrites scene.content (written_in scene.content root torn.bytes) root (with_commit top) =
       record {
@@ -215,6 +221,7 @@ module _ {D : Type 0} (b : Ghosts D) (settled_left : (s : D) (n : ℕ) (f : Cont
       let to : IsLinkedTo scripts k scene links.0 (commit_entry scene.standing k line u (b.moment after)) (written_in scene.content root torn.bytes) (replaced k scene.states) = links.1 in
       write_stops_run b settled_left opening scripts first scene links.0 before after root torn.bytes journal (commit_entry scene.standing k line u (b.moment after))
       st doubt to.leads.shared to.lawful to.standing (record {
+        within = root_within scene k w root tree d plan st.shared written;
         here = ap (λ (c : Content). c root) to.content_is ∙ here_now scene.content root torn.bytes;
         others = λ n ne. ap (λ (c : Content). c n) to.content_is ∙ others_then scene.content root torn.bytes n ne;
         most = to.most;

@@ -18,6 +18,24 @@ pub below_found : (c d : Content) (most : ℕ) (store : LaidStore) (places : Lis
     → SameBelow store.root.blocks c d → found d most ≡ Ok (state_in store)
 below_found c d most store places some is same = ap state_of (laid_again c d most store places is (same 0 some) same)
 
+-- contents as they were but for one block, which has its old content or the new one
+pub one_of_two : (blocks : ℕ) (c d : Content) (n : ℕ) (body : List ℕ) → SameOthers n c d → d n ≡ Some body → (y x : Content) → SameBelow blocks c y → OldOrNew n body y x
+    → SameBelow blocks c x ⊎ SameBelow blocks d x
+one_of_two blocks c d n body others here y x same change = by change.here
+  where
+    same_or_not : (k : ℕ) → (k ≡ n) ⊎ (k ≢ n)
+    same_or_not k = grind arith
+
+    by : (x n ≡ y n) ⊎ (x n ≡ Some body) → SameBelow blocks c x ⊎ SameBelow blocks d x
+    by (inl e) = inl (λ k small. elim (same_or_not k) [
+      | inl at ↦ ap x at ∙ e ∙ ap y (sym at) ∙ same k small
+      | inr ne ↦ change.others k ne ∙ same k small
+    ])
+    by (inr e) = inr (λ k small. elim (same_or_not k) [
+      | inl at ↦ ap x at ∙ e ∙ sym here ∙ ap d (sym at)
+      | inr ne ↦ change.others k ne ∙ same k small ∙ sym (others k ne)
+    ])
+
 module _ {D : Type 0} (b : Ghosts D) (most : ℕ) (old new : D) (c : Content) (store : LaidStore) (places : List ℕ) (some : 0 < store.root.blocks) (is : laid c most [] ≡ Ok (store, places))
     (known : (f : Content) → b.may_leave old (b.moment old) f → SameBelow store.root.blocks c f) where
   -- a turn that wrote nothing
@@ -36,23 +54,6 @@ module _ {D : Type 0} (b : Ghosts D) (most : ℕ) (old new : D) (c : Content) (s
 
   module _ (d : Content) (n : ℕ) (body : List ℕ) (others : SameOthers n c d) (here : d n ≡ Some body) (after : LaidStore) (order : List ℕ) (lies : laid d most [] ≡ Ok (after, order))
       (count : after.root.blocks ≡ store.root.blocks) (changes : Changes b.moment b.may_leave old new (OldOrNew n body)) where
-    -- contents as they were but for one block, which has its old content or the new one
-    pub one_of_two : (y x : Content) → SameBelow store.root.blocks c y → OldOrNew n body y x → SameBelow store.root.blocks c x ⊎ SameBelow store.root.blocks d x
-    one_of_two y x same change = by change.here
-      where
-        same_or_not : (k : ℕ) → (k ≡ n) ⊎ (k ≢ n)
-        same_or_not k = grind arith
-
-        by : (x n ≡ y n) ⊎ (x n ≡ Some body) → SameBelow store.root.blocks c x ⊎ SameBelow store.root.blocks d x
-        by (inl e) = inl (λ k small. elim (same_or_not k) [
-          | inl at ↦ ap x at ∙ e ∙ ap y (sym at) ∙ same k small
-          | inr ne ↦ change.others k ne ∙ same k small
-        ])
-        by (inr e) = inr (λ k small. elim (same_or_not k) [
-          | inl at ↦ ap x at ∙ e ∙ sym here ∙ ap d (sym at)
-          | inr ne ↦ change.others k ne ∙ same k small ∙ sym (others k ne)
-        ])
-
     some_after : 0 < after.root.blocks
     some_after = subst (λ m. 0 < m) (sym count) some
 
@@ -62,7 +63,7 @@ module _ {D : Type 0} (b : Ghosts D) (most : ℕ) (old new : D) (c : Content) (s
     either : (t : ℕ) (x : Content) → b.moment old ≤ t → t ≤ b.moment new → b.may_leave new t x → (found x most ≡ Ok (state_in store)) ⊎ (found x most ≡ Ok (state_in after))
     either t x low high may =
         let from = changes.own t x low high may in
-        elim (one_of_two from.0 x (known from.0 from.1) from.2) [
+        elim (one_of_two store.root.blocks c d n body others here from.0 x (known from.0 from.1) from.2) [
           | inl same ↦ inl (below_found c x most store places some is same)
           | inr same ↦ inr (found_after x same)
         ]

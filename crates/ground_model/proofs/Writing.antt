@@ -1,5 +1,5 @@
 -- A turn that writes a page of a flush.
-use Rattle.std.proofs.Common.{◌≡◌, inr, ℕ, List, refl, sym, ap, ◌∙◌, subst, arith}
+use Rattle.std.proofs.Common.{◌≡◌, inr, ℕ, ◌<◌, List, refl, sym, ap, ◌∙◌, subst, arith}
 use Rattle.block_map.specs.declared.states.BlockState.{BlockState}
 use Rattle.pair_store.specs.declared.store.Blocks.{Ghosts}
 use Rattle.service_model.specs.declared.journal.Entry.{Entry}
@@ -15,6 +15,7 @@ use Rattle.ground_model.specs.Own.{IsFlushing}
 use Rattle.ground_model.specs.Runs.{Stands}
 use Rattle.ground_model.specs.Scenes.{Scene}
 use Rattle.ground_model.specs.Writing.{FlushBegins, FlushGoesOn, IsWriteTurn, WriteTurnStands}
+use Rattle.ground_model.proofs.HeldWrites.{past_end}
 use Rattle.ground_model.proofs.Lines.{changes_only}
 use Rattle.ground_model.proofs.Steps.{held_write_leads, leaves_go_on, line_step_leads, there_twice}
 use Rattle.ground_model.proofs.Turning.{turn_stands}
@@ -54,9 +55,10 @@ module _ {D : Type 0} (b : Ghosts D) (opening : State) (scripts : Scripts) (firs
 
 pub write_turn_stands : {D : Type 0} (b : Ghosts D) → ((s : D) (n : ℕ) (f : Content) → b.settled_always s n → b.may_leave s (b.moment s) f → f n ≡ b.content s n) → WriteTurnStands b
 write_turn_stands b settled_left opening scripts first k scene before after es fs c states block bytes st turn =
-    let leads = write_leads b opening scripts first k scene before after es fs c states block bytes st turn in (
+    let leads = write_leads b opening scripts first k scene before after es fs c states block bytes st turn in
+    let within : block < scene.store.root.blocks = subst (λ n. block < n) (turn.size ∙ st.shared.map.size) (past_end states block k turn.mine) in (
       turn_stands b settled_left opening scripts first scene (record scene { content = b.content after; states = states; standing = after_entries scripts scene.standing fs }) before after es fs st (record {
-        operation = inr (block, bytes, turn.put);
+        operation = inr (block, bytes, within, turn.put);
         content = refl;
         most = refl;
         blocks = refl;

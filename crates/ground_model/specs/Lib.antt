@@ -28,3 +28,8 @@ pub mod Names
 pub mod Shows
 pub mod Tests
 pub mod Bounds
+pub mod OpeningSeveral
+pub mod Linking
+pub mod Rolling
+pub mod Several
+pub mod SeveralTurns

@@ -1,6 +1,6 @@
 -- A turn of a client's line that writes nothing, in which the client may have taken blocks or given
 -- them back; and a turn that a fault stopped in the write of a block that the client holds.
-use Rattle.std.specs.Prelude.{◌≡◌, ◌≢◌, ℕ, false, List, [], ◌∷◌, ◌++◌, length, Some, None}
+use Rattle.std.specs.Prelude.{◌≡◌, ◌≢◌, ℕ, false, List, [], ◌∷◌, ◌++◌, length, Some, None, ◌≤◌}
 use Rattle.std.specs.List.{list_any}
 use Rattle.drives.specs.Changes.{Changes}
 use Rattle.block_map.specs.States.{state_at, held_count, Replaces, TakesLeast}
@@ -157,7 +157,9 @@ pub record IsFailedTurn {D : Type 0} (b : Ghosts D) (scripts : Scripts) (k : ℕ
   pub mine : state_at states block ≡ Held k
   pub size : b.size after ≡ b.size before
   pub either : OldOrNew block bytes (b.content before) (b.content after)
-  pub images : Changes b.moment b.may_leave before after (OldOrNew block bytes)
+  pub later : b.moment before ≤ b.moment after
+  pub images : b.settled_always before block
+      → Changes b.moment b.may_leave before after (OldOrNew block bytes)
   pub moments : AreOfTurn (b.moment after) es
 
 -- It stops the run with those entries noted, and with nothing in doubt.

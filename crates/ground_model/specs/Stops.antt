@@ -1,5 +1,5 @@
 -- A run that a fault stopped.
-use Rattle.std.specs.Prelude.{◌≡◌, ◌⊎◌, ℕ, List, Option, Some, None, Ok}
+use Rattle.std.specs.Prelude.{◌≡◌, ◌⊎◌, ℕ, List, Option, Some, None, Ok, ◌<◌}
 use Rattle.drives.specs.Changes.{Changes}
 use Rattle.pair_store.specs.Blocks.{OldOrNew, SameOthers}
 use Rattle.pair_store.specs.declared.store.Blocks.{Ghosts}
@@ -46,13 +46,15 @@ ReadStops {D} b =
 pub record IsFailedWrite {D : Type 0} (b : Ghosts D) (old new : Scene) (before after : D)
     (block : ℕ) (bytes : List ℕ)
     : Type 0 where
+  pub within : block < old.store.root.blocks
   pub here : new.content block ≡ Some bytes
   pub others : SameOthers block old.content new.content
   pub most : new.most ≡ old.most
   pub blocks : new.store.root.blocks ≡ old.store.root.blocks
   pub size : b.size after ≡ b.size before
   pub either : OldOrNew block bytes (b.content before) (b.content after)
-  pub images : Changes b.moment b.may_leave before after (OldOrNew block bytes)
+  pub images : b.settled_always before block
+      → Changes b.moment b.may_leave before after (OldOrNew block bytes)
 
 -- The write of an entry that changes the state stops the run with that entry in doubt.
 abbrev pub WriteStops : {D : Type 0} → Ghosts D → Type 0

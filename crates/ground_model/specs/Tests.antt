@@ -44,13 +44,17 @@ pub record HasTested {D : Type 0} (b : Ghosts D) (old new : D) (n next : ℕ)
       → OldOrNew n (commit_bytes next body) (b.content old) (b.content new)
   pub unwritten : b.tells → LeftAlone result → SameContents (b.content old) (b.content new)
   pub others : b.tells → SameOthers n (b.content old) (b.content new)
+  pub settles : b.tells → IsSet result → b.settled new n
   pub settles_always : b.tells → IsSet result → b.settled_always new n
+  pub kept : b.tells → IsUntorn result → (k : ℕ) → (k ≢ n) ⊎ LeftAlone result
+      → b.settled old k → b.settled new k
   pub kept_always : IsUntorn result → (k : ℕ) → (k ≢ n) ⊎ LeftAlone result
       → b.settled_always old k → b.settled_always new k
   pub images : b.tells → b.settled_always old n → (body : List ℕ) → b.content old n ≡ Some body
       → Changes b.moment b.may_leave old new (OldOrNew n (commit_bytes next body))
   pub images_unwritten : LeftAlone result
       → Changes b.moment b.may_leave old new SameContents
+  pub later : b.moment old ≤ b.moment new
   pub size : b.size new ≡ b.size old
 
 -- The link to block `top` was set by one write, in the page of the last version.
@@ -78,7 +82,9 @@ pub record IsTorn {D : Type 0} (b : Ghosts D) (scene : Scene) (before after : D)
   pub linked : version_of bytes ≡ Ok (with_commit top page)
   pub size : b.size after ≡ b.size before
   pub either : OldOrNew root bytes (b.content before) (b.content after)
-  pub images : Changes b.moment b.may_leave before after (OldOrNew root bytes)
+  pub later : b.moment before ≤ b.moment after
+  pub images : b.settled_always before root
+      → Changes b.moment b.may_leave before after (OldOrNew root bytes)
 
 -- What it came to, by the answer. A version page is never found closed or bad.
 abbrev pub LinkCame : {D : Type 0} → Ghosts D → Scene → D → D → ℕ → ℕ → ℕ → ℕ

@@ -7,7 +7,10 @@ mod bound_laws;
 mod laws;
 mod line_laws;
 mod link_laws;
+mod opening_laws;
 mod page_laws;
+mod rolling_laws;
+mod several_laws;
 mod walk_laws;
 
 pub use bound_laws::{bounds_are_small, turns_are_bounded};
@@ -24,5 +27,14 @@ pub use line_laws::{
     stands_stops, writes_are_told,
 };
 pub use link_laws::{commits_name_versions, links_are_in_doubt, links_are_tested};
+pub use opening_laws::{
+    bases_begin, bases_stay, super_is_noted, super_is_opened, super_turns_stand,
+};
 pub use page_laws::blocks_show_pages;
+pub use rolling_laws::{
+    links_are_left, links_roll, rolling_stops, rolling_turns_stand, rolls_come_to,
+};
+pub use several_laws::{
+    commit_links_several, links_stay, several_are_in_doubt, several_are_tested, several_turn_stands,
+};
 pub use walk_laws::{versions_are_ahead, walks_are_left, walks_stay, walks_take_turns};
