@@ -149,7 +149,7 @@ given_more client old mid new all one = record {
 
 -- ---- a run that begins
 
-module _ {D : Type 0} (b : Ghosts D) (o : OpenedOver D) (scripts : Scripts) (scene : Scene) (begins : Begins b o scripts scene) where
+module _ {D : Type 0} (b : Ghosts D) (o : OpenedOver D) (first : ℕ) (scripts : Scripts) (scene : Scene) (begins : Begins b o first scripts scene) where
   is_newcomer : (k : ℕ) → client_of scene.standing k ≡ newcomer
   is_newcomer k = ap (λ s. client_of s k) begins.starts ∙ newcomers scripts scene.standing.state k
 
@@ -169,11 +169,11 @@ module _ {D : Type 0} (b : Ghosts D) (o : OpenedOver D) (scripts : Scripts) (sce
     λ locked. absurd (true≢false (sym locked ∙ ap (λ (u : Option Update). option_map_or (λ u. u.is_super && has_file object u) u false) (begins.idle k))),
   )
 
-  begins_over : (c : Common D) → IsOver o c → RunStands b scene.standing.state scripts o.since scene c
+  begins_over : (c : Common D) → IsOver o c → RunStands b scene.standing.state scripts first scene c
   begins_over c over = record {
     stands =
-        let F : D → Type 0 = λ d. Stands b scene.standing.state scripts o.since scene d (entries_of c) in
-        let G : List Entry → Type 0 = λ es. Stands b scene.standing.state scripts o.since scene o.store es in
+        let F : D → Type 0 = λ d. Stands b scene.standing.state scripts first scene d (entries_of c) in
+        let G : List Entry → Type 0 = λ es. Stands b scene.standing.state scripts first scene o.store es in
         subst F (sym over.store) (subst G (sym over.entries) begins.stands);
     sure = over.doubt;
     map = over.map holds_none ∙ sym begins.map;
@@ -216,13 +216,13 @@ module _ {D : Type 0} (b : Ghosts D) (o : OpenedOver D) (scripts : Scripts) (sce
       (newcomer_owns script s.course (subst (λ n. 1 ≤ n) (sym new.number) low) (ap (λ n. slice_get scripts (n - 1)) new.number ∙ at) new.answers new.drafts.none new.held new.turns)
 
 pub opened_run_begins : {D : Type 0} (b : Ghosts D) → OpenedRunBegins b
-opened_run_begins b o scripts c is sayable over =
-    let begun = opened_begins b o scripts is sayable in
+opened_run_begins b o first scripts c is sayable over =
+    let begun = opened_begins b o first scripts is sayable in
     let scene = begun.0 in (
       scene,
       record {
         found = ap (λ d. found (b.content d) (b.size d)) over.store ∙ begun.1.opening;
-        stands = begins_over b o scripts scene begun.1 c over;
-        own = newcomer_own b o scripts scene begun.1;
+        stands = begins_over b o first scripts scene begun.1 c over;
+        own = newcomer_own b o first scripts scene begun.1;
       },
     )

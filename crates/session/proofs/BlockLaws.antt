@@ -21,7 +21,6 @@ use Rattle.ground_model.proofs.Writing.{write_turn_stands}
 
 pub record BlockLaws {D : Type 0} (b : Ghosts D) : Type 0 where
   pub calm : (s : D) → IsRead b s s
-  pub settled_now : (s : D) (n : ℕ) → b.settled_always s n → b.settled s n
   pub lines : LineTurnStands b
   pub reads : ReadStops b
   pub writes : WriteTurnStands b
@@ -32,19 +31,17 @@ pub record BlockLaws {D : Type 0} (b : Ghosts D) : Type 0 where
 
 pub block_laws : {D : Type 0} (b : Ghosts D) → ((s : D) → b.moment s < 2 ^ 64)
     → ((s : D) (n : ℕ) (f : Content) → b.tells → b.settled_always s n → b.may_leave s (b.moment s) f → f n ≡ b.content s n)
-    → ((s : D) (n : ℕ) → b.tells → b.settled_always s n → b.settled s n)
     → ((s : D) (n : ℕ) (body : List ℕ) → b.tells → n < b.size s → b.content s n ≡ Some body → (length body ≡ 1024) × (slice_index body 0 ≡ 165))
     → ((s : D) (n : ℕ) (body : List ℕ) → b.tells → b.content s n ≡ Some body → IsBytes body) → b.tells → BlockLaws b
-block_laws {D} b clock left now whole bytes told =
+block_laws {D} b clock left whole bytes told =
     let settled_left : (s : D) (n : ℕ) (f : Content) → b.settled_always s n → b.may_leave s (b.moment s) f → f n ≡ b.content s n = λ s n f always may. left s n f told always may in
     record {
-      calm = λ s. record { size = refl; same = λ n. refl; settled = λ n is. is; images = stays b.moment b.may_leave s SameContents (clock s) (λ f n. refl) };
-      settled_now = λ s n. now s n told;
+      calm = λ s. record { size = refl; same = λ n. refl; settled = λ n is. is; settled_always = λ n is. is; images = stays b.moment b.may_leave s SameContents (clock s) (λ f n. refl) };
       lines = line_turn_stands b settled_left;
       reads = read_stops b settled_left;
       writes = write_turn_stands b settled_left;
       write_faults = held_write_stops b settled_left;
-      came = set_rewrites b told (λ s n. now s n told) (λ s n body low holds. record { size = (whole s n body told low holds).0; fits = bytes s n body told holds });
+      came = set_rewrites b told (λ s n body low holds. record { size = (whole s n body told low holds).0; fits = bytes s n body told holds });
       links = answered_link_stands b settled_left;
       link_faults = link_stops b settled_left;
     }

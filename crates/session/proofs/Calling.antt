@@ -21,7 +21,8 @@ use Rattle.ground_model.specs.Stops.{HasStopped}
 use Rattle.ground_model.proofs.Known.{known_same}
 use Rattle.ground_model.proofs.Steps.{leaves_go_on}
 use Rattle.session.specs.Calls.{AnswersLine, CountsTurn, IsCounted, IsIn, IsLost, IsReady, KeepsNumbers, KeepsRest, KeepsRoom, MoveCall, Own, StopsBecause, TurnCall}
-use Rattle.session.specs.Ends.{AreDue, AreOf, AreUnmoved, GoesTo, StopsBy, StopsWith, TurnEnds, TurnGoes, is_unmoving}
+use Rattle.play_order.specs.Orders.{AreDue}
+use Rattle.session.specs.Ends.{AreOf, AreUnmoved, GoesTo, StopsBy, StopsWith, TurnEnds, TurnGoes, is_unmoving}
 use Rattle.session.specs.Safe.{IsSafe, noted_for}
 use Rattle.session.specs.Shared.{RunStands, entries_of}
 use Rattle.session.specs.Values.{RepliesValue, one_more}

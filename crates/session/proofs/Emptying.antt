@@ -38,9 +38,9 @@ use Rattle.session.specs.declared.course.Course.{Course}
 use Rattle.session.specs.declared.turned.Turned.{Turned}
 use Rattle.session.specs.declared.turned.Turned.TheVariants as turned
 use Rattle.session.proofs.BlockLaws.{BlockLaws}
-use Rattle.session.proofs.Deciding.{next_is}
+use Rattle.session.proofs.Deciding.{line_here, next_is}
 use Rattle.session.proofs.Drafts.{has_draft}
-use Rattle.session.proofs.Giving.{map_stays, plain_locks, some_line}
+use Rattle.session.proofs.Giving.{map_stays, plain_locks}
 use Rattle.session.proofs.Over.{IsOver, KeepsHeld, over_by, over_call, over_goes, some_here}
 
 -- ---- the update
@@ -136,7 +136,7 @@ pub nothing_by : {D : Type 0} (b : Ghosts D) (script : ScriptValue) (c e c' : Co
     → IfSome (line_of script s) (λ x. IsAnswered script x (reply.Committed serials) e c' (record s { drafts = cleared }) s')
     → IfSome (line_of script s) (λ x. result ≡ turned.Line x.number) → TurnCall b IsAtRest script c c' s s' result
 nothing_by b script c e c' s s' cleared made at serials result laws ready at_commit one nothing made_is at_is serials_are note none answered number =
-    let line = some_line b script c s ready in
+    let line = line_here script s ready.line in
     let draft = has_draft b script c s ready one in
     let said : Committed made at ≡ Committed [] (b.moment c.store) = cc in
     let text : reply.Committed serials ≡ reply.Committed (serial_of s ∷ []) = ap reply.Committed (serials_are ∙ ap (λ n. serial_in (base_at s.drafts n) ∷ []) draft.picked) in

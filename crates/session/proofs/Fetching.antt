@@ -152,7 +152,7 @@ module _ {D : Type 0} (b : Ghosts D) (script : ScriptValue) (c c' : Common D) (s
     }
 
   module _ (read : ReadCall b (IsPageOf (length q)) c c' block (Ok page)) where
-    module _ (told : b.tells) (law : LineTurnStands b) (keeping : ReadTurnStands b) (now : (d : D) (m : ℕ) → b.settled_always d m → b.settled d m)
+    module _ (told : b.tells) (law : LineTurnStands b) (keeping : ReadTurnStands b)
         (opening : State) (scripts : Scripts) (first : ℕ) (scene : Scene) (at : IsIn b IsAtRest script c s opening scripts first scene) where
       abbrev after : Scene
       after = moved_to scene (b.content c'.store) scene.states scene.standing
@@ -166,7 +166,7 @@ module _ {D : Type 0} (b : Ghosts D) (script : ScriptValue) (c c' : Common D) (s
       -- the page that was read is the one that the block shows
       page_is : pages_of scene.content block ≡ Some page
       page_is =
-          let gives = read.gives told (settled_here b opening scripts first scene c at.stands now block shows.lies.high) shows.body (held_now b opening scripts first scene c at.stands block shows.body shows.holds) in
+          let gives = read.gives told (settled_here b opening scripts first scene c at.stands block shows.lies.high) shows.body (held_now b opening scripts first scene c at.stands block shows.body shows.holds) in
           let both : (let r : Result PageValue Why = Ok shows.page in r) ≡ Ok page = sym shows.reads ∙ gives.0 in
           let same : shows.page ≡ page = cc in
           shows.shows ∙ ap Some same
@@ -195,9 +195,9 @@ module _ {D : Type 0} (b : Ghosts D) (script : ScriptValue) (c c' : Common D) (s
           (untimed_are_of_turn (b.moment c'.store) [] refl)
           (subst (OwnsStage scripts after script next) (sym rest) rests)
 
-    pub fetched_call : (b.tells → LineTurnStands b) → (b.tells → ReadTurnStands b) → (b.tells → (d : D) (m : ℕ) → b.settled_always d m → b.settled d m) → IsReady b script c s
+    pub fetched_call : (b.tells → LineTurnStands b) → (b.tells → ReadTurnStands b) → IsReady b script c s
         → root_of s < b.size c.store → (s' : Course) → s' ≡ next → TurnCall b IsAtRest script c c' s s' turned.Again
-    fetched_call law keeping now ready low s' came =
+    fetched_call law keeping ready low s' came =
         subst (λ (x : Course). TurnCall b IsAtRest script c c' s x turned.Again) (sym came)
         (again_call b c c' script s next ready
         (record {
@@ -211,4 +211,4 @@ module _ {D : Type 0} (b : Ghosts D) (script : ScriptValue) (c c' : Common D) (s
           stage = subst (λ (x : Stage). IsSafeStage (length c.map) next x) (sym ready.stage) tt;
           drafts = same_base_safe (b.size c.store) s.drafts new was_fed.base low;
         })
-        IsAtRest (λ told opening scripts first scene at. goes told (law told) (keeping told) (now told) opening scripts first scene at ready.stage))
+        IsAtRest (λ told opening scripts first scene at. goes told (law told) (keeping told) opening scripts first scene at ready.stage))

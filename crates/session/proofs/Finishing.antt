@@ -22,7 +22,7 @@ use Rattle.session.specs.declared.common.Common.{Common}
 use Rattle.session.specs.declared.course.Course.{Course}
 use Rattle.session.specs.declared.turned.Turned.{Turned}
 use Rattle.session.specs.declared.turned.Turned.TheVariants as turned
-use Rattle.session.proofs.Giving.{some_line}
+use Rattle.session.proofs.Deciding.{line_here}
 use Rattle.session.proofs.Over.{IsOver, over_by, some_here}
 
 -- what is told of a file anew is told of the same files where the map alone was another
@@ -52,7 +52,7 @@ finished_by {D} b script top at made ones serials states c d e c' s s' cleared r
     }
   where
     line : (line : Line) × (line_of script s ≡ Some line)
-    line = some_line b script c s ready
+    line = line_here script s ready.line
 
     mid : Common D
     mid = record c { heads = d.heads }

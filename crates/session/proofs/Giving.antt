@@ -1,8 +1,7 @@
 -- A commit that is refused, and one of an update that wrote nothing.
-use Rattle.std.proofs.Common.{◌≡◌, ◌⊎◌, inl, inr, ℕ, zero, suc, ◌<◌, ◌≤◌, false, ◌&&◌, List, [], ◌∷◌, length, Option, Some, None, refl, sym, ap, ◌∙◌, subst, arith, get_or}
+use Rattle.std.proofs.Common.{◌≡◌, ◌⊎◌, inl, inr, ℕ, zero, suc, ◌≤◌, false, ◌&&◌, List, [], ◌∷◌, length, Option, Some, None, refl, sym, ap, ◌∙◌, subst, arith}
 use Rattle.std.specs.Prelude.{IfSome}
 use Rattle.std.specs.Option.{option_map_or}
-use Rattle.std.proofs.lemmas.Option.{slice_get_cases}
 use Rattle.block_map.specs.States.{Replaces, held_count}
 use Rattle.block_map.specs.declared.states.BlockState.{BlockState}
 use Rattle.block_map.specs.declared.states.BlockState.TheVariants.{Free}
@@ -38,7 +37,7 @@ use Rattle.session.specs.declared.course.Course.{Course}
 use Rattle.session.specs.declared.turned.Turned.{Turned}
 use Rattle.session.specs.declared.turned.Turned.TheVariants as turned
 use Rattle.session.proofs.BlockLaws.{BlockLaws}
-use Rattle.session.proofs.Deciding.{at_commit, sets_none}
+use Rattle.session.proofs.Deciding.{at_commit, line_here, sets_none}
 use Rattle.session.proofs.Over.{IsOver, KeepsHeld, over_by, over_call, over_goes, some_here}
 
 -- ---- the map
@@ -132,22 +131,13 @@ module _ {D : Type 0} (b : Ghosts D) (script : ScriptValue) (line : Line) (why :
 
 -- ---- what the code did
 
--- a client that is ready has a line
-pub some_line : {D : Type 0} (b : Ghosts D) (script : ScriptValue) (c : Common D) (s : Course) → IsReady b script c s → (line : Line) × (line_of script s ≡ Some line)
-some_line b script c s ready = by (slice_get_cases script.lines (length s.replies.items)).1
-  where
-    by : ((x : Line) × (length s.replies.items < length script.lines) × (line_of script s ≡ Some x) × (get_or script.lines (length s.replies.items) x ≡ x))
-        ⊎ ((length script.lines ≤ length s.replies.items) × (line_of script s ≡ None)) → (line : Line) × (line_of script s ≡ Some line)
-    by (inl (x, low, is, same)) = (x, is)
-    by (inr (high, none)) = absurd (let low = ready.line in omega (arith, low, high))
-
 pub refuse_by : {D : Type 0} (b : Ghosts D) (script : ScriptValue) (why : Refusal) (states : List BlockState) (c d e c' : Common D) (s t s' : Course) (cleared : PoolSet) (text : LineRefusal) (result : Turned)
     → (b.tells → BlockLaws b) → IsReady b script c s → d ≡ record c { map = states } → t ≡ record s { held = 0 } → GivesBack s.client s.held c.map states → text ≡ refusal_of why
     → IfSome (line_of script t) (λ x. NotesAlone d e (in_line t.client x (Refused why) ∷ [])) → IsCleared cleared
     → IfSome (line_of script (record t { drafts = cleared })) (λ x. IsAnswered script x (reply.Refused text) e c' (record t { drafts = cleared }) s')
     → IfSome (line_of script (record t { drafts = cleared })) (λ x. result ≡ turned.Line x.number) → TurnCall b (IsRefusing why) script c c' s s' result
 refuse_by b script why states c d e c' s t s' cleared text result laws ready d_is t_is gives text_is note none answered number =
-    let line = some_line b script c s ready in
+    let line = line_here script s ready.line in
     let over : IsOver script line.0 (Refused why) (reply.Refused text) states 0 c c' s s' =
     over_by script line.0 (Refused why) (reply.Refused text) states 0 c d e c' s t (record t { drafts = cleared }) s' line.1 d_is t_is note refl none answered in
     refuse_call b script line.0 why states c c' s s' ready (subst (λ (x : LineRefusal). IsOver script line.0 (Refused why) (reply.Refused x) states 0 c c' s s') text_is over) gives laws result

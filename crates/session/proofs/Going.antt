@@ -32,7 +32,8 @@ use Rattle.ground_model.proofs.Lines.{became, changes_only, still_client}
 use Rattle.ground_model.proofs.Noted.{nothing_is_noted}
 use Rattle.ground_model.proofs.QuietTurns.{same_held}
 use Rattle.session.specs.Answers.{NotesAlone}
-use Rattle.session.specs.Ends.{AreDue, AreOf, GoesTo, TurnGoes}
+use Rattle.play_order.specs.Orders.{AreDue}
+use Rattle.session.specs.Ends.{AreOf, GoesTo, TurnGoes}
 use Rattle.session.specs.Own.{IsOwn, IsSeated}
 use Rattle.session.specs.Reads.{StoreAlone}
 use Rattle.session.specs.Shared.{RunStands, doubt_of, entries_of}

@@ -68,7 +68,7 @@ at_line scripts scene script s line rest next = record {
 pub untouched : {D : Type 0} (b : Ghosts D) → ((d : D) → b.moment d < 2 ^ 64) → (old new : D) → new ≡ old → IsRead b old new
 untouched {D} b clock old new same =
     subst (λ (d : D). IsRead b old d) (sym same)
-    (record { size = refl; same = λ n. refl; settled = λ n is. is; images = stays b.moment b.may_leave old SameContents (clock old) (λ f n. refl) })
+    (record { size = refl; same = λ n. refl; settled = λ n is. is; settled_always = λ n is. is; images = stays b.moment b.may_leave old SameContents (clock old) (λ f n. refl) })
 
 -- ---- numbers
 

@@ -103,7 +103,7 @@ module _ {D : Type 0} (b : Ghosts D) (laws : b.tells → BlockLaws b) (script : 
 
     pub never_empty : b.tells → (b.settled c.store (root_of s) → b.content c.store (root_of s) ≡ None) → ⊥
     never_empty told empty =
-        none_some (sym (empty ((laws told).settled_now c.store (root_of s) (is.stands.stands.settled (root_of s) shown.lies.high)))
+        none_some (sym (empty (is.stands.stands.settled (root_of s) shown.lies.high))
         ∙ ap (λ (f : Content). f (root_of s)) (sym is.stands.stands.content) ∙ shown.holds)
 
   -- a half failed there in its last call

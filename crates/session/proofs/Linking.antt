@@ -33,7 +33,7 @@ use Rattle.session.specs.declared.common.Common.{Common}
 use Rattle.session.specs.declared.course.Course.{Course}
 use Rattle.session.specs.declared.turned.Fault.TheVariants as fault
 use Rattle.session.specs.declared.turned.Turned.TheVariants as turned
-use Rattle.session.proofs.Owned.{lost_call}
+use Rattle.session.proofs.Never.{never_call}
 
 -- the block of `/` is that of the first place
 pub top_is : (placed : List Placed) (top block : ℕ) → slice_get placed 0 ≡ Some (record { path = []; block = block }) → block_of placed [] ≡ Some top → top ≡ block
@@ -59,7 +59,7 @@ module _ {D : Type 0} (b : Ghosts D) (script : ScriptValue) (c : Common D) (s : 
   -- so it is not block 0
   pub zero_call : (why : Why) → IsReady b script c s → top ≡ 0 → TurnCall b (IsWritingBy flush) script c c s s (turned.Stopped (fault.Bad top why))
   zero_call why ready zero =
-      lost_call b (IsWritingBy flush) script c s top why ready (λ told opening scripts first_moment scene is.
+      never_call b (IsWritingBy flush) script c s top why ready (λ told opening scripts first_moment scene is.
       let low = top_low opening scripts first_moment scene is in omega (arith, low, zero))
 
 -- ---- what came of it

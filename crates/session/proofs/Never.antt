@@ -10,6 +10,7 @@ use Rattle.session.specs.declared.turned.Fault.TheVariants as fault
 use Rattle.session.specs.declared.turned.Turned.TheVariants as turned
 use Rattle.session.proofs.Calling.{keeps_refl}
 
+-- a client that is in no scene stops the run at a block that does not hold what its place says
 pub never_call : {D : Type 0} (b : Ghosts D) (own : Own) (script : ScriptValue) (c : Common D) (s : Course) (block : ℕ) (why : Why)
     → IsReady b script c s → (b.tells → IsLost b own script c s) → TurnCall b own script c c s s (turned.Stopped (fault.Bad block why))
 never_call b own script c s block why ready lost = record {

@@ -67,10 +67,10 @@ module _ {D : Type 0} (b : Ghosts D) (opening : State) (scripts : Scripts) (firs
   head_is_known = record { low = head_shows.lies.high; bytes = head_shows.body; holds = head_shows.holds; value = head_shows.page; gives = head_shows.reads }
 
   -- the page that was read is the one that the block shows
-  module _ (c' : Common D) (version : VersionValue) (read : ReadCall b IsVersionOf c c' g.head.block (Ok version)) (told : b.tells) (now : (d : D) (m : ℕ) → b.settled_always d m → b.settled d m) where
+  module _ (c' : Common D) (version : VersionValue) (read : ReadCall b IsVersionOf c c' g.head.block (Ok version)) (told : b.tells) where
     pub version_is : head_shows.page ≡ version
     version_is =
-        let gives = read.gives told (settled_here b opening scripts first scene c st now g.head.block head_shows.lies.high) head_shows.body
+        let gives = read.gives told (settled_here b opening scripts first scene c st g.head.block head_shows.lies.high) head_shows.body
         (held_now b opening scripts first scene c st g.head.block head_shows.body head_shows.holds) in
         let both : (let r : Result VersionValue Why = Ok head_shows.page in r) ≡ Ok version = sym head_shows.reads ∙ gives in
         cc
@@ -150,16 +150,16 @@ module _ {D : Type 0} (b : Ghosts D) (script : ScriptValue) (c mid noted c' : Co
   answer = reply.Base (version.serial ∷ [])
 
   module _ (is : IsAnswered script line answer noted c' then s') where
-    module _ (told : b.tells) (now : (d : D) (m : ℕ) → b.settled_always d m → b.settled d m) (opening : State) (scripts : Scripts) (first : ℕ) (scene : Scene)
+    module _ (told : b.tells) (opening : State) (scripts : Scripts) (first : ℕ) (scene : Scene)
         (at : IsIn b IsAtRest script c s opening scripts first scene) where
       abbrev opens : Update
       opens = opened scene.standing.state (Begin file)
 
       of_object : version.object ≡ object_of file
-      of_object = object_is b opening scripts first scene c at.stands file g granted mid version read told now
+      of_object = object_is b opening scripts first scene c at.stands file g granted mid version read told
 
       of_serial : version.serial ≡ serial_of scene.standing.state (object_of file)
-      of_serial = serial_is b opening scripts first scene c at.stands file g granted mid version read told now
+      of_serial = serial_is b opening scripts first scene c at.stands file g granted mid version read told
 
       update_none : (client_of scene.standing s.client).update ≡ None
       update_none = own_is_none scene script s (client_of scene.standing s.client).update at.mine.update none
@@ -183,7 +183,7 @@ module _ {D : Type 0} (b : Ghosts D) (script : ScriptValue) (c mid noted c' : Co
         };
         serial = begun.serial ∙ of_serial;
         draft = subst (λ n. HasDraft scene (work_on scene.standing.state file) n (view_at new 0)) (sym begun.block)
-            (draft_begins b opening scripts first scene c at.stands file g granted mid version read told now (view_at new 0) begun.begins);
+            (draft_begins b opening scripts first scene c at.stands file g granted mid version read told (view_at new 0) begun.begins);
         fed = inl begun.fed;
       }
 
@@ -223,12 +223,12 @@ module _ {D : Type 0} (b : Ghosts D) (script : ScriptValue) (c mid noted c' : Co
       same_store : c'.store ≡ mid.store
       same_store = ap (λ (x : Common D). x.store) is.noted.only ∙ ap (λ (x : Common D). x.store) note.only
 
-      pub begin_call : (b.tells → LineTurnStands b) → (b.tells → (d : D) (m : ℕ) → b.settled_always d m → b.settled d m) → (result : Turned) → result ≡ turned.Line line.number
+      pub begin_call : (b.tells → LineTurnStands b) → (result : Turned) → result ≡ turned.Line line.number
           → TurnCall b IsAtRest script c c' s s' result
-      begin_call laws now result said =
+      begin_call laws result said =
           line_ended b laws script c noted c' s then s' line next ready (in_line s.client line (Began (base_of version ∷ [])) ∷ []) answer come is result said
           (λ told. subst (λ (d : D). IsRead b c.store d) (sym same_store) (read.read told))
-          (λ told opening scripts first scene at. begin_ends told (now told) opening scripts first scene at (b.moment c'.store))
+          (λ told opening scripts first scene at. begin_ends told opening scripts first scene at (b.moment c'.store))
 
 -- a set without drafts
 pub no_drafts : (size : ℕ) (set : PoolSet) (n : ℕ) → n ≡ 0 → AreSafeDrafts size set n → (set.count ≡ 0) × (set.fed ≡ 0)
@@ -241,12 +241,12 @@ pub record IsOfVersion (version : VersionValue) (bases : List Named) (serials : 
 
 module _ {D : Type 0} (b : Ghosts D) (script : ScriptValue) (c mid noted c' : Common D) (s s' : Course) (file : FileName) (g : Granted) (version : VersionValue) (new : PoolSet)
     (bases : List Named) (serials : List ℕ) (of : IsOfVersion version bases serials) where
-  pub begin_turn : (b.tells → LineTurnStands b) → (b.tells → (d : D) (m : ℕ) → b.settled_always d m → b.settled d m) → IsReady b script c s → IsAtCommand script s (Begin file)
+  pub begin_turn : (b.tells → LineTurnStands b) → IsReady b script c s → IsAtCommand script s (Begin file)
       → drafts_of s ≡ 0 → IsGranted c.table c.heads.items file g → ReadCall b IsVersionOf c mid g.head.block (Ok version) → BeginsAt new g.head.block version
       → IfSome (line_of script s) (λ line. NotesAlone mid noted (in_line s.client line (Began bases) ∷ []))
       → IfSome (line_of script s) (λ line. IsAnswered script line (reply.Base serials) noted c' (record s { drafts = new; rights = g.rights }) s')
       → (result : Turned) → IfSome (line_of script s) (λ line. result ≡ turned.Line line.number) → TurnCall b IsAtRest script c c' s s' result
-  begin_turn laws now ready command none granted read begun notes answered result said =
+  begin_turn laws ready command none granted read begun notes answered result said =
       let t : Course = record s { drafts = new; rights = g.rights } in
       let line : Line = command.line in
       begin_call b script c mid noted c' s s' line command.next file command.is none g granted version read new begun
@@ -255,4 +255,4 @@ module _ {D : Type 0} (b : Ghosts D) (script : ScriptValue) (c mid noted c' : Co
       ready
       (subst (λ (ns : List Named). NotesAlone mid noted (in_line s.client line (Began ns) ∷ [])) of.its_bases
       (for_line (line_of script s) (λ l. NotesAlone mid noted (in_line s.client l (Began bases) ∷ [])) line command.next notes))
-      laws now result (for_line (line_of script s) (λ l. result ≡ turned.Line l.number) line command.next said)
+      laws result (for_line (line_of script s) (λ l. result ≡ turned.Line l.number) line command.next said)

@@ -1,19 +1,15 @@
 -- A turn of a client that has one thing of its own where it has another; and of one that is in no scene.
-use Rattle.std.proofs.Common.{◌≡◌, ◌⊎◌, inl, inr, ℕ, ◌+◌, ◌-◌, ◌^◌, refl, arith}
+use Rattle.std.proofs.Common.{◌≡◌, ◌⊎◌, inl, inr, ℕ, ◌+◌, ◌-◌, ◌^◌}
 use Rattle.std.specs.Prelude.{min}
-use Rattle.page_codec.specs.declared.why.Why.{Why}
 use Rattle.pair_store.specs.declared.store.Blocks.{Ghosts}
 use Rattle.script_text.specs.ScriptValue.{ScriptValue}
 use Rattle.service_model.specs.Standing.{Scripts}
 use Rattle.tree_model.specs.States.{State}
 use Rattle.ground_model.specs.Scenes.{Scene}
-use Rattle.session.specs.Calls.{IsIn, IsLost, IsReady, Own, StopsBecause, TurnCall}
+use Rattle.session.specs.Calls.{IsIn, IsLost, Own, StopsBecause, TurnCall}
 use Rattle.session.specs.declared.common.Common.{Common}
 use Rattle.session.specs.declared.course.Course.{Course}
-use Rattle.session.specs.declared.turned.Fault.TheVariants as fault
 use Rattle.session.specs.declared.turned.Turned.{Turned}
-use Rattle.session.specs.declared.turned.Turned.TheVariants as turned
-use Rattle.session.proofs.Calling.{keeps_refl}
 
 -- wherever a client has the first of its own it has the second
 abbrev pub Owns : {D : Type 0} → Ghosts D → Own → Own → ScriptValue → Common D → Course → Type 0
@@ -47,23 +43,3 @@ module _ {D : Type 0} (b : Ghosts D) (own mine : Own) (script : ScriptValue) (c 
     stopped = stops_too;
     turns = λ told opening scripts first scene is. call.turns told opening scripts first scene (record { stands = is.stands; mine = owns told opening scripts first scene is });
   }
-
--- a client that is in no scene stops the run at a block that does not hold what its place says
-pub lost_call : {D : Type 0} (b : Ghosts D) (own : Own) (script : ScriptValue) (c : Common D) (s : Course) (block : ℕ) (why : Why)
-    → IsReady b script c s → (b.tells → IsLost b own script c s) → TurnCall b own script c c s s (turned.Stopped (fault.Bad block why))
-lost_call b own script c s block why ready lost = record {
-  store = ready.store;
-  safe = ready.safe;
-  numbers = keeps_refl b c s.client;
-  client = refl;
-  entries = omega arith;
-  lines = refl;
-  counts = tt;
-  rest = tt;
-  counted = inl refl;
-  stopped = λ h is. (let wrong : fault.Bad block why ≡ fault.Drive h = stopped_is (fault.Bad block why) (fault.Drive h) is in absurd cc);
-  turns = λ told opening scripts first scene is. lost told opening scripts first scene is;
-}
-  where
-    stopped_is : (x y : fault.the_data) → turned.Stopped x ≡ turned.Stopped y → x ≡ y
-    stopped_is x y e = cc

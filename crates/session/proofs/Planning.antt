@@ -28,7 +28,8 @@ use Rattle.session.specs.declared.turned.Turned.{Turned}
 use Rattle.session.specs.declared.turned.Turned.TheVariants as turned
 use Rattle.session.proofs.Deciding.{run_sound}
 use Rattle.session.proofs.Drafts.{fresh_told, has_draft, view_is}
-use Rattle.session.proofs.Owned.{lost_call, own_call}
+use Rattle.session.proofs.Never.{never_call}
+use Rattle.session.proofs.Owned.{own_call}
 use Rattle.session.proofs.Refusing.{needed_here, some_taken}
 
 -- the plan of a draft's blocks, of those that the client holds
@@ -52,7 +53,7 @@ module _ {D : Type 0} (b : Ghosts D) (script : ScriptValue) (c : Common D) (s : 
       ne (need_is ∙ all ∙ sym held)
 
   pub unneeded_call : (block : ℕ) (why : Why) → needed ≢ s.held → TurnCall b IsHolding script c c s s (turned.Stopped (fault.Bad block why))
-  unneeded_call block why ne = lost_call b IsHolding script c s block why ready (λ told. holds_need told ne)
+  unneeded_call block why ne = never_call b IsHolding script c s block why ready (λ told. holds_need told ne)
 
   module _ (flush : Plan) (p : IsPlanned c.map s flush) where
     placed_is : IsPlaced (view_of s) flush.placed

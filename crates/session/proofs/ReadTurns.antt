@@ -40,8 +40,8 @@ module _ {D : Type 0} (b : Ghosts D) (opening : State) (scripts : Scripts) (firs
   pub held_now : (n : ℕ) (bytes : List ℕ) → scene.content n ≡ Some bytes → b.content c.store n ≡ Some bytes
   held_now n bytes is = ap (λ (f : Content). f n) (sym st.stands.content) ∙ is
 
-  pub settled_here : ((d : D) (n : ℕ) → b.settled_always d n → b.settled d n) → (n : ℕ) → n < scene.store.root.blocks → b.settled c.store n
-  settled_here now n low = now c.store n (st.stands.settled n low)
+  pub settled_here : (n : ℕ) → n < scene.store.root.blocks → b.settled c.store n
+  settled_here n low = st.stands.settled n low
 
   pub within_store : IsSafeStore b.size c → (n : ℕ) → n < scene.store.root.blocks → n < b.size c.store
   within_store safe n low =
@@ -73,13 +73,12 @@ module _ {D T : Type 0} (b : Ghosts D) (Gives : List ℕ → T → Type 0) (c c'
       last = read.alone.last;
     }
 
-    module _ (now : b.tells → (d : D) (m : ℕ) → b.settled_always d m → b.settled d m)
-        (known : b.tells → (opening : State) (scripts : Scripts) (first : ℕ) (scene : Scene) → IsIn b own script c s opening scripts first scene → IsKnown Gives scene n) where
+    module _ (known : b.tells → (opening : State) (scripts : Scripts) (first : ℕ) (scene : Scene) → IsIn b own script c s opening scripts first scene → IsKnown Gives scene n) where
       -- a block that is known is not empty
       full : (b.tells → b.settled c.store n → b.content c.store n ≡ None) → b.tells → IsLost b own script c s
       full none told opening scripts first scene at =
           let here = known told opening scripts first scene at in
-          let no = none told (settled_here b opening scripts first scene c at.stands (now told) n here.low) in
+          let no = none told (settled_here b opening scripts first scene c at.stands n here.low) in
           let yes = held_now b opening scripts first scene c at.stands n here.bytes here.holds in
           (let both : (let o : Option (List ℕ) = None in o) ≡ Some here.bytes = sym no ∙ yes in absurd (cc both))
 
@@ -98,7 +97,7 @@ module _ {D T : Type 0} (b : Ghosts D) (Gives : List ℕ → T → Type 0) (c c'
       half_failed : b.tells → (opening : State) (scripts : Scripts) (first : ℕ) (scene : Scene) → IsIn b own script c s opening scripts first scene → (h : Half) × (e ≡ fault.Drive h)
       half_failed told opening scripts first scene at =
           let here = known told opening scripts first scene at in
-          read.good told (settled_here b opening scripts first scene c at.stands (now told) n here.low) (within_store b opening scripts first scene c at.stands ready.store n here.low)
+          read.good told (settled_here b opening scripts first scene c at.stands n here.low) (within_store b opening scripts first scene c at.stands ready.store n here.low)
           here.bytes here.value (held_now b opening scripts first scene c at.stands n here.bytes here.holds) here.gives
 
       stops : (b.tells → ReadStops b) → b.tells → (opening : State) (scripts : Scripts) (first : ℕ) (scene : Scene) → IsIn b own script c s opening scripts first scene

@@ -200,7 +200,7 @@ module _ {D T : Type 0} (b : Ghosts D) (Gives : List ℕ → T → Type 0) (own 
 pub place_shown : {D T : Type 0} (b : Ghosts D) (Gives : List ℕ → T → Type 0) (laws : BlockLaws b) (opening : State) (scripts : Scripts) (first : ℕ) (scene : Scene) (c : Common D) (n : ℕ)
     → RunStands b opening scripts first scene c → n < scene.store.root.blocks → (body : List ℕ) → scene.content n ≡ Some body → (x : T) → Gives body x → Shown b Gives c n
 place_shown b Gives laws opening scripts first scene c n st high body holds x gives = record {
-  settled = laws.settled_now c.store n (st.stands.settled n high);
+  settled = st.stands.settled n high;
   low = (let fits = blocks_fit scene.content scene.most scene.store scene.places st.stands.shared.laid in let most = st.stands.most in omega (arith, high, fits, most));
   bytes = body;
   holds = ap (λ (f : Content). f n) (sym st.stands.content) ∙ holds;

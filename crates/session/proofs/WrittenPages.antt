@@ -92,7 +92,7 @@ module _ {D : Type 0} (b : Ghosts D) (laws : b.tells → BlockLaws b) (script : 
     its_block : IsHeldBy scene s.client at
     its_block = is.mine.flushing.mine j (record { path = path; block = at }) place
 
-    pub settled : b.settled_always c.store at
+    pub settled : b.settled c.store at
     settled =
         let size = is.stands.stands.shared.map.size in
         let low = within scene is.stands.stands.shared.map s.client at its_block in
@@ -202,6 +202,7 @@ module _ {D : Type 0} (b : Ghosts D) (laws : b.tells → BlockLaws b) (script : 
           mine = its_block opening scripts first scene told is;
           size = alone.size;
           either = fails.either;
+          later = fails.later;
           images = fails.images;
           moments = record { moments = refl; one = omega arith };
         })

@@ -65,7 +65,8 @@ head_with made block own head =
 pub record IsAppended {D : Type 0} (c c' : Common D) (made : Named) (block own : ℕ) : Type 0 where
   pub only : c' ≡ record c { heads = c'.heads }
   pub told : (head : Head) → slice_get c.heads.items (made.object - 1) ≡ Some (Some head)
-      → c'.heads.items ≡ slice_set c.heads.items (made.object - 1) (Some (head_with made block own head))
+      → c'.heads.items
+      ≡ slice_set c.heads.items (made.object - 1) (Some (head_with made block own head))
   pub untold : ((head : Head) → slice_get c.heads.items (made.object - 1) ≡ Some (Some head) → ⊥)
       → c'.heads.items ≡ c.heads.items
 

@@ -1,15 +1,15 @@
 -- What a turn of a client comes to, where the run stands in a scene.
-use Rattle.std.specs.Prelude.{◌≡◌, ℕ, Bool, true, not, ◌&&◌, List, [], ◌∷◌, ◌++◌, slice_get, Some}
+use Rattle.std.specs.Prelude.{◌≡◌, ℕ, Bool, true, not, ◌&&◌, List, ◌++◌, slice_get, Some}
 use Rattle.std.specs.List.{list_all}
 use Rattle.ground_model.specs.Fronts.{AreOfTurn, is_change}
 use Rattle.ground_model.specs.Leaves.{LeavesOthers}
 use Rattle.ground_model.specs.Scenes.{Scene}
 use Rattle.ground_model.specs.Stops.{HasStopped}
 use Rattle.pair_store.specs.declared.store.Blocks.{Ghosts}
+use Rattle.play_order.specs.Orders.{AreDue}
 use Rattle.script_text.specs.ScriptValue.{ScriptValue}
 use Rattle.service_model.specs.declared.journal.Entry.{Entry}
-use Rattle.service_model.specs.Entries.{after_entries, after_entry, is_answer}
-use Rattle.service_model.specs.Order.{IsDue}
+use Rattle.service_model.specs.Entries.{after_entries, is_answer}
 use Rattle.service_model.specs.Standing.{Scripts, Standing}
 use Rattle.tree_model.specs.States.{State}
 use Rattle.session.specs.Own.{IsOwn}
@@ -20,11 +20,6 @@ use Rattle.session.specs.declared.turned.Fault.{Fault}
 use Rattle.session.specs.declared.turned.Fault.TheVariants.{Drive, Bad}
 use Rattle.session.specs.declared.turned.Turned.{Turned}
 use Rattle.session.specs.declared.turned.Turned.TheVariants.{Line, Again, Work, Finished, Stopped}
-
--- Each of these entries of a commit comes where no earlier cause of a refusal does.
-abbrev pub AreDue : Scripts → Standing → List Entry → Type 0
-AreDue scripts s [] = Unit {0}
-AreDue scripts s (e ∷ es) = IsDue s e.client e.what × AreDue scripts (after_entry scripts s e) es
 
 -- These entries are of one client, and due where s stands.
 pub record AreOf (scripts : Scripts) (s : Standing) (k : ℕ) (es : List Entry) : Type 0 where

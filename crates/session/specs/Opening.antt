@@ -4,12 +4,12 @@ use Rattle.afs_base.specs.declared.head.Head.{Head}
 use Rattle.block_map.specs.States.{held_count}
 use Rattle.block_map.specs.declared.states.BlockState.{BlockState}
 use Rattle.pair_store.specs.declared.store.Blocks.{Ghosts}
-use Rattle.recovery.specs.Opening.{IsOpening}
 use Rattle.recovery.specs.declared.opened.OpenedOver.{OpenedOver}
 use Rattle.script_text.specs.ScriptValue.{ScriptValue}
 use Rattle.service_model.specs.Sound.{AreSayable}
 use Rattle.service_model.specs.Standing.{Scripts}
 use Rattle.store_model.specs.Found.{found}
+use Rattle.ground_model.specs.Opened.{IsOpenedFrom}
 use Rattle.ground_model.specs.Scenes.{Scene}
 use Rattle.session.specs.Names.{IsHead}
 use Rattle.session.specs.Own.{IsOwn}
@@ -89,5 +89,5 @@ pub record RunBegins {D : Type 0} (b : Ghosts D) (scripts : Scripts) (first : �
 -- So it is over each store as an opening leaves it.
 abbrev pub OpenedRunBegins : {D : Type 0} → Ghosts D → Type 0
 OpenedRunBegins {D} b =
-    (o : OpenedOver D) (scripts : Scripts) (c : Common D) → IsOpening b o → AreSayable scripts
-    → IsOver o c → (scene : Scene) × RunBegins b scripts o.since scene c
+    (o : OpenedOver D) (first : ℕ) (scripts : Scripts) (c : Common D) → IsOpenedFrom b o first
+    → AreSayable scripts → IsOver o c → (scene : Scene) × RunBegins b scripts first scene c

@@ -66,20 +66,22 @@ pub record ReadCall {D T : Type 0} (b : Ghosts D) (Gives : List ℕ → T → Ty
 -- ---- writes
 
 -- The write of a block failed: it has its old bytes or the new ones, and so it is in what a crash
--- may leave.
+-- may leave, where the block was settled in every image.
 pub record FailsToPut {D : Type 0} (b : Ghosts D) (old new : D) (block : ℕ)
     (bytes : List ℕ) : Type 0 where
   pub either : OldOrNew block bytes (b.content old) (b.content new)
-  pub images : Changes b.moment b.may_leave old new (OldOrNew block bytes)
+  pub later : b.moment old ≤ b.moment new
+  pub images : b.settled_always old block
+      → Changes b.moment b.may_leave old new (OldOrNew block bytes)
 
 -- Block n was written.
 pub record WriteCall {D : Type 0} (b : Ghosts D) (c c' : Common D) (n : ℕ) (bytes : List ℕ)
     (result : Result (Unit {0}) Fault) : Type 0 where
   pub alone : StoreAlone b c c'
   pub one : CountsOne (b.count c.store) (b.count c'.store)
-  pub put : b.tells → b.settled_always c.store n
+  pub put : b.tells → b.settled c.store n
       → OnOk result (HasPut b c.store c'.store n bytes)
-  pub fails : b.tells → b.settled_always c.store n
+  pub fails : b.tells → b.settled c.store n
       → OnErr result (FailsToPut b c.store c'.store n bytes)
   pub rest : b.tells → OnOk result (b.rest c'.store)
   pub drive : IfErr result (λ e. (h : Half) × (e ≡ Drive h))

@@ -6,7 +6,8 @@ use Rattle.session.specs.Own.{IsBehind, IsCommitting, IsDeciding, IsMerged}
 use Rattle.session.specs.Safe.{serial_of}
 use Rattle.session.proofs.Choosing.{behind_owns, deciding_owns, merged_owns, none_told}
 use Rattle.session.proofs.Drafts.{has_draft, object_is, serial_is}
-use Rattle.session.proofs.Owned.{lost_call, own_call}
+use Rattle.session.proofs.Never.{never_call}
+use Rattle.session.proofs.Owned.{own_call}
 use Rattle.session.proofs.course.Course.decide.Goals as goal
 
 pub returns-in-Some : goal.returns-in-Some
@@ -52,5 +53,5 @@ returns-in-None g c =
     let s = c.args.self.now in
     let draft = has_draft b script common s c.requires.ready c.requires.draft in
     let object = c.object-object.ensures.value ∙ object_is s draft in
-    lost_call b IsMerged script common s c.root-block.result Object c.requires.ready
+    never_call b IsMerged script common s c.root-block.result Object c.requires.ready
     (λ told. none_told b script common s (subst (λ (n : ℕ). HasNoHead common.heads.items n) object c.in-None.ensures))

@@ -33,12 +33,12 @@ returns-in-Ok-feed g c = λ script step ready command rights few wants.
     (subst (λ (n : ℕ). ReadCall g.B.Blocks (IsPageOf n) c.args.common.now c.read_page.new.self c.args.block (Ok c.in-Ok.page)) c.len-level.ensures.value c.in-Ok.ensures.read)
     (λ told. line_turn_stands g.B.Blocks (λ d n f always left. g.met.B.Blocks.settled_left d n f told always left))
     (λ told. read_turn_stands g.B.Blocks (λ d n f always left. g.met.B.Blocks.settled_left d n f told always left))
-    (λ told d n always. g.met.B.Blocks.settled_now d n told always) ready c.requires.draft.base c.go_on.new.self c.go_on.ensures
+    ready c.requires.draft.base c.go_on.new.self c.go_on.ensures
 
 pub returns-in-Err : goal.returns-in-Err
 returns-in-Err g c = λ script step ready command rights few wants.
     read_stopped g.B.Blocks (IsPageOf (length c.args.path.now)) c.args.common.now c.read_page.new.self c.args.block c.in-Err.fault
     (subst (λ (n : ℕ). ReadCall g.B.Blocks (IsPageOf n) c.args.common.now c.read_page.new.self c.args.block (Err c.in-Err.fault)) c.len-level.ensures.value c.in-Err.ensures.read)
-    script c.args.self.now IsAtRest ready (λ told d n always. g.met.B.Blocks.settled_now d n told always)
+    script c.args.self.now IsAtRest ready
     (λ told opening scripts first scene at. wanted_is_known g.B.Blocks script c.args.common.now c.args.self.now step c.args.path.now c.args.block command c.requires.draft.one wants opening scripts first scene at)
     (λ told. read_stops g.B.Blocks (λ d n f always left. g.met.B.Blocks.settled_left d n f told always left))

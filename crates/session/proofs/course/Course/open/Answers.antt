@@ -23,13 +23,13 @@ returns-in-Ok g c =
       its_serials = c.one_serial.ensures ∙ ap (λ (v : VersionValue). v.serial ∷ []) c.version.view_is;
     })
     (λ told. line_turn_stands g.B.Blocks (λ d n f always left. g.met.B.Blocks.settled_left d n f told always left))
-    (λ told d n always. g.met.B.Blocks.settled_now d n told always) c.requires.ready c.requires.command c.requires.none c.requires.granted c.in-Ok.ensures
+    c.requires.ready c.requires.command c.requires.none c.requires.granted c.in-Ok.ensures
     (begins_at c.pick.new.self c.args.granted.now.head.block c.in-Ok.version begun)
     c.note.ensures c.answer.ensures.answered c.answer.result c.answer.ensures.line
 
 pub returns-in-Err : goal.returns-in-Err
 returns-in-Err g c =
     read_stopped g.B.Blocks IsVersionOf c.args.common.now c.read_version.new.self c.args.granted.now.head.block c.in-Err.fault c.in-Err.ensures
-    c.args.script.now c.args.self.now IsAtRest c.requires.ready (λ told d n always. g.met.B.Blocks.settled_now d n told always)
+    c.args.script.now c.args.self.now IsAtRest c.requires.ready
     (λ told opening scripts first scene at. head_is_known g.B.Blocks opening scripts first scene c.args.common.now at.stands c.args.file.now c.args.granted.now c.requires.granted)
     (λ told. read_stops g.B.Blocks (λ d n f always left. g.met.B.Blocks.settled_left d n f told always left))

@@ -4,7 +4,7 @@ use Rattle.session.proofs.course.Course.open_next.Given as given
 use Rattle.session.proofs.course.Course.open_next.Goals as goal
 
 laws : (g : given.Over) → g.B.Blocks.tells → BlockLaws g.B.Blocks
-laws g = block_laws g.B.Blocks g.met.B.Blocks.clock g.met.B.Blocks.settled_left g.met.B.Blocks.settled_now g.met.B.Blocks.whole g.met.B.Blocks.bytes
+laws g = block_laws g.B.Blocks g.met.B.Blocks.clock g.met.B.Blocks.settled_left g.met.B.Blocks.whole g.met.B.Blocks.bytes
 
 pub returns-in-Ok : goal.returns-in-Ok
 returns-in-Ok g c = λ script ready.

@@ -7,7 +7,7 @@ use Rattle.session.proofs.course.Course.refuse_commit.Goals.{then-self-gt0, else
 use Rattle.session.proofs.course.Course.refuse_commit.Goals as goal
 
 laws : (g : given.Over) → g.B.Blocks.tells → BlockLaws g.B.Blocks
-laws g = block_laws g.B.Blocks g.met.B.Blocks.clock g.met.B.Blocks.settled_left g.met.B.Blocks.settled_now g.met.B.Blocks.whole g.met.B.Blocks.bytes
+laws g = block_laws g.B.Blocks g.met.B.Blocks.clock g.met.B.Blocks.settled_left g.met.B.Blocks.whole g.met.B.Blocks.bytes
 
 pub returns : goal.returns
 returns g c =

@@ -39,10 +39,13 @@ returns g c =
       either = e.either;
       unwritten = e.unwritten;
       others = e.others;
+      settles = e.settles;
       settles_always = e.settles_always;
+      kept = e.kept;
       kept_always = e.kept_always;
       images = e.images;
       images_unwritten = e.images_unwritten;
+      later = e.images_others.later;
       size = e.size;
     })
     (tried_rest b common.store c.test_and_set-tested.new.self c.test_and_set-tested.result e.rest e.rest_kept) e.counted e.later (fails_by b common.store c.test_and_set-tested.new.self c.root.result top c.test_and_set-tested.result e.unread e.stopped))
