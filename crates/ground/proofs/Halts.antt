@@ -87,7 +87,7 @@ entries_noted b o g g' k n s es stood mine entries of_client legal moments = rec
 pub never_bad : {D : Type 0} (b : Ghosts D) (was g : GroundValue D) (fault : Fault) → was ≡ g → IsGround b was → was.fault ≡ Some fault → (o : State) → IsRunOf b g o → IsNeverBad (turned.Stopped fault)
 never_bad b was g fault same ground some o is block why bad =
     let here : IsGround b g = subst (IsGround b) same ground in
-    let h : HasRun b g = here.told is.tells is.opened in
+    let h : HasRun b is.first g = here.told is.tells is.first is.opened in
     let this : fault ≡ Bad block why = (let e : turned.Stopped fault ≡ turned.Stopped (Bad block why) = bad in cc (e)) in
     let then : g.fault ≡ Some (Bad block why) = sym (ap (λ (x : GroundValue _). x.fault) same) ∙ some ∙ ap Some this in
-    subst (StandsOr b h.opening g.opened.since g.common g.sessions) then h.stands
+    subst (StandsOr b h.opening is.first g.common g.sessions) then h.stands

@@ -16,7 +16,7 @@ use Rattle.session.specs.Names.{HasNoHead}
 use Rattle.session.specs.Opening.{TellsSerials, told_of}
 use Rattle.ground.specs.Grounds.{AllStand, HasRun, IsGround, StandsOr}
 use Rattle.ground.specs.Promises.{first_of, kept_in, kept_of}
-use Rattle.ground.specs.Runs.{GroundValue, entries_in, first_in, scripts_in}
+use Rattle.ground.specs.Runs.{GroundValue, entries_in, scripts_in}
 use Rattle.ground.specs.Turning.{IsRunOf}
 
 -- ---- one file
@@ -99,9 +99,9 @@ pub kept_told : {D : Type 0} (b : Ghosts D) (was g : GroundValue D) (object : �
     → (opening : State) → IsRunOf b g opening → g.fault ≡ None → result ≡ kept_in (serial_state opening (scripts_in g) (entries_in g)) object
 kept_told {D} b was g object result same ground told opening is none =
     let here : IsGround b g = subst (IsGround b) same ground in
-    let h : HasRun b g = here.told is.tells is.opened in
+    let h : HasRun b is.first g = here.told is.tells is.first is.opened in
     let over : h.opening ≡ opening = (let one = h.found in let two = is.found in cc (one, two)) in
-    let a : AllStand b h.opening (first_in g) g.common g.sessions = subst (StandsOr b h.opening (first_in g) g.common g.sessions) none h.stands in
+    let a : AllStand b h.opening is.first g.common g.sessions = subst (StandsOr b h.opening is.first g.common g.sessions) none h.stands in
     let now : a.scene.standing.state ≡ serial_state opening (scripts_in g) (entries_in g) =
     sym (ap (λ (s : Standing). s.state) a.stands.stands.reaches.leads) ∙ ap (λ o. serial_state o (scripts_in g) (entries_in g)) over in
     let heads = subst (λ (x : GroundValue D). MatchOption result (HasNoHead x.common.heads.items object) (TellsSerials x.common.heads.items object)) same told in

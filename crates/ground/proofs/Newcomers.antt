@@ -7,13 +7,13 @@ use Rattle.std.proofs.lemmas.List.Sums.{sum_by-cons, sum_by-le-sum_by}
 use Rattle.std.proofs.lemmas.Option.{slice_get_within}
 use Rattle.block_map.specs.States.{held_count}
 use Rattle.pair_store.specs.declared.store.Blocks.{Ghosts}
-use Rattle.recovery.specs.Opening.{IsOpening}
 use Rattle.recovery.specs.declared.opened.OpenedOver.{OpenedOver}
 use Rattle.script_text.specs.ScriptValue.{ScriptValue}
 use Rattle.script_text.specs.declared.reply.LineReply.{LineReply}
 use Rattle.service_model.specs.Sound.{AreSayable}
 use Rattle.service_model.specs.Standing.{Scripts}
 use Rattle.store_model.specs.Found.{found}
+use Rattle.ground_model.specs.Opened.{IsOpenedFrom}
 use Rattle.session.specs.Opening.{IsOver}
 use Rattle.session.specs.Safe.{AreSafeDrafts, IsSafe, IsSafeStage, IsSafeStore, entries_left}
 use Rattle.session.specs.Sessions.{IsNewcomer}
@@ -104,9 +104,9 @@ module _ {D : Type 0} (size : D → ℕ) (c : Common D) (sessions : List Session
 -- ---- the run
 
 module _ {D : Type 0} (b : Ghosts D) (o : OpenedOver D) (c : Common D) (sessions : List Session) (new : AreNewcomers (scripts_of sessions) sessions) (over : IsOver o c) where
-  begins_here : AreSayable (scripts_of sessions) → IsOpening b o → HasRun b (record { opened = o; common = c; sessions = sessions; fault = None })
-  begins_here sayable is =
-      let begun = opened_run_begins b o (scripts_of sessions) c is sayable over in
+  begins_here : AreSayable (scripts_of sessions) → (first : ℕ) → IsOpenedFrom b o first → HasRun b first (record { opened = o; common = c; sessions = sessions; fault = None })
+  begins_here sayable first is =
+      let begun = opened_run_begins b o first (scripts_of sessions) c is sayable over in
       record {
         opening = begun.0.standing.state;
         found = sym (ap (λ d. found (b.content d) (b.size d)) over.store) ∙ begun.1.found;
@@ -125,7 +125,7 @@ module _ {D : Type 0} (b : Ghosts D) (o : OpenedOver D) (c : Common D) (sessions
       subst F (sym same) (record {
         size = ap b.size over.store;
         safe = safe_run b.size c sessions new few none room some store over.entries wide few_lines made;
-        told = λ tells is. begins_here sayable is;
+        told = λ tells first is. begins_here sayable first is;
       })
 
   pub has_begun : (seen : OpenedOver D) → seen ≡ o → HasBegun o (scripts_of sessions) (record { opened = seen; common = c; sessions = sessions; fault = None })

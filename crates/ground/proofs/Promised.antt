@@ -9,7 +9,7 @@ use Rattle.store_model.specs.Found.{LaidStore, found, laid, state_of}
 use Rattle.store_model.specs.Walk.{Refused}
 use Rattle.tree_model.specs.States.{State}
 use Rattle.ground_model.specs.Fronts.{AllRecovered, IsFront}
-use Rattle.ground_model.specs.Runs.{Stands, images_of}
+use Rattle.ground_model.specs.Runs.{IsCalm, Stands, images_of}
 use Rattle.session.specs.declared.session.Session.{Session}
 use Rattle.session.specs.declared.turned.Fault.{Fault}
 use Rattle.session.specs.declared.turned.Fault.TheVariants.{Drive, Bad}
@@ -18,7 +18,7 @@ use Rattle.session.proofs.Frames.{seat_of}
 use Rattle.ground.specs.Grounds.{AllStand, AreClients, HasRun, IsGround, StandsOr}
 use Rattle.ground.specs.Promises.{AreMade, IsPromised, IsStanding, StandsNow, kept_of}
 use Rattle.ground.proofs.KeptTold.{told_kept}
-use Rattle.ground.specs.Runs.{GroundValue, entries_in, first_in, journal_in, scripts_in, store_in}
+use Rattle.ground.specs.Runs.{GroundValue, entries_in, journal_in, scripts_in, store_in}
 use Rattle.ground.specs.Turning.{IsRunOf, replies_of}
 
 same_store : (o : Result (LaidStore × List ℕ) Refused) (s r : LaidStore) (p q : List ℕ) → o ≡ Ok (s, p) → o ≡ Ok (r, q) → s ≡ r
@@ -41,8 +41,8 @@ answers_at b g clients standing each k low high = by (slice_get g.sessions (k - 
 
 -- ---- a run that stands
 
-module _ {D : Type 0} (b : Ghosts D) (g : GroundValue D) (clients : AreClients g.sessions) (opening : State) (a : AllStand b opening (first_in g) g.common g.sessions) where
-  stood : Stands b opening (scripts_in g) (first_in g) a.scene (store_in g) (entries_in g)
+module _ {D : Type 0} (b : Ghosts D) (g : GroundValue D) (clients : AreClients g.sessions) (opening : State) (first : ℕ) (a : AllStand b opening first g.common g.sessions) where
+  stood : Stands b opening (scripts_in g) first a.scene (store_in g) (entries_in g)
   stood = a.stands.stands
 
   laid_now : laid (b.content (store_in g)) (b.size (store_in g)) [] ≡ Ok (a.scene.store, a.scene.places)
@@ -63,34 +63,35 @@ module _ {D : Type 0} (b : Ghosts D) (g : GroundValue D) (clients : AreClients g
       (let seat = seat_of (scripts_in g) a.scene s.script s.course s.course.stage (a.own i s at) in
       ap (λ n. (client_of a.scene.standing n).answers) (sym (clients.numbers i s at)) ∙ seat.answers))
 
-  standing_is : IsStanding b g a.scene.standing
+  standing_is : IsStanding b first g a.scene.standing
   standing_is = record {
     doubt = a.stands.sure;
     state = ap state_of laid_now ∙ ap (λ s. Ok s) stood.shared.state;
     settled = λ n low. stood.settled n (subst (λ m. n < m) (sym blocks_are) low);
+    calm = subst (λ m. IsCalm b first m (store_in g)) blocks_are stood.calm;
     told = ap told_of a.stands.heads ∙ told_kept a.scene.store.files ∙ ap (λ (s : State). map kept_of s.files) stood.shared.state;
     made = made_here;
   }
 
-  recovered_is : AllRecovered (images_of b (b.size (store_in g))) opening (scripts_in g) (first_in g) (store_in g) (journal_in g)
+  recovered_is : AllRecovered (images_of b (b.size (store_in g))) opening (scripts_in g) first (store_in g) (journal_in g)
   recovered_is t x low high may = inl (subst (λ n. IsFront opening (scripts_in g) (entries_in g) t (found x n)) stood.most (stood.fronts t x low high may))
 
 -- ---- the whole
 
 module _ {D : Type 0} (b : Ghosts D) (g : GroundValue D) (clients : AreClients g.sessions) where
-  by_fault : (opening : State) (fault : Option Fault) → g.fault ≡ fault → StandsOr b opening (first_in g) g.common g.sessions fault → IsPromised b opening g
-  by_fault opening None none a = record {
+  by_fault : (opening : State) (first : ℕ) (fault : Option Fault) → g.fault ≡ fault → StandsOr b opening first g.common g.sessions fault → IsPromised b opening first g
+  by_fault opening first None none a = record {
     standing = a.scene.standing;
     legal = a.stands.stands.reaches;
-    answers = answered b g clients opening a;
-    stands = subst (StandsNow b g a.scene.standing) (sym none) (standing_is b g clients opening a);
-    recovered = recovered_is b g clients opening a;
+    answers = answered b g clients opening first a;
+    stands = subst (StandsNow b first g a.scene.standing) (sym none) (standing_is b g clients opening first a);
+    recovered = recovered_is b g clients opening first a;
   }
-  by_fault opening (Some (Drive half)) is h = record {
+  by_fault opening first (Some (Drive half)) is h = record {
     standing = h.stopped.standing;
     legal = h.stopped.reaches;
     answers = answers_at b g clients h.stopped.standing h.answers;
-    stands = subst (StandsNow b g h.stopped.standing) (sym is) (record {
+    stands = subst (StandsNow b first g h.stopped.standing) (sym is) (record {
       half = half;
       failed = refl;
       doubt = h.stopped.doubt;
@@ -100,11 +101,11 @@ module _ {D : Type 0} (b : Ghosts D) (g : GroundValue D) (clients : AreClients g
     });
     recovered = h.stopped.recovered;
   }
-  by_fault opening (Some (Bad block why)) is h = absurd h
+  by_fault opening first (Some (Bad block why)) is h = absurd h
 
-pub promised : {D : Type 0} (b : Ghosts D) (was g : GroundValue D) → was ≡ g → IsGround b was → (opening : State) → IsRunOf b g opening → IsPromised b opening g
+pub promised : {D : Type 0} (b : Ghosts D) (was g : GroundValue D) → was ≡ g → IsGround b was → (opening : State) (is : IsRunOf b g opening) → IsPromised b opening is.first g
 promised b was g same ground opening is =
     let here : IsGround b g = subst (IsGround b) same ground in
-    let h : HasRun b g = here.told is.tells is.opened in
+    let h : HasRun b is.first g = here.told is.tells is.first is.opened in
     let state : h.opening ≡ opening = (let one = h.found in let two = is.found in cc (one, two)) in
-    subst (λ o. IsPromised b o g) state (by_fault b g here.safe.clients h.opening g.fault refl h.stands)
+    subst (λ o. IsPromised b o is.first g) state (by_fault b g here.safe.clients h.opening is.first g.fault refl h.stands)

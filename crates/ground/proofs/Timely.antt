@@ -23,7 +23,7 @@ use Rattle.session.specs.declared.stage.Stage.TheVariants.{Resting}
 use Rattle.session.proofs.LineBounds.{rest_is_between, turns_are_within, update_is_plain}
 use Rattle.session.proofs.Stages.{line_is_built}
 use Rattle.ground.specs.Grounds.{AllStand, HasRun, IsGround, StandsOr}
-use Rattle.ground.specs.Runs.{GroundValue, entries_in, first_in, scripts_in, scripts_of}
+use Rattle.ground.specs.Runs.{GroundValue, entries_in, scripts_in, scripts_of}
 use Rattle.ground.specs.Turning.{IsRunOf, IsTimely, standing_of, turns_of}
 use Rattle.ground.proofs.Clients.{lines_at}
 
@@ -63,16 +63,16 @@ names_few sessions k n line at = by (slice_get sessions (k - 1)) refl
 -- ---- a run that stands
 
 module _ {D : Type 0} (b : Ghosts D) (g : GroundValue D) (ground : IsGround b g) (opening : State) (is : IsRunOf b g opening) (none : g.fault ≡ None) where
-  run : HasRun b g
-  run = ground.told is.tells is.opened
+  run : HasRun b is.first g
+  run = ground.told is.tells is.first is.opened
 
   over : run.opening ≡ opening
   over = (let one = run.found in let two = is.found in cc (one, two))
 
-  stand : AllStand b opening (first_in g) g.common g.sessions
+  stand : AllStand b opening is.first g.common g.sessions
   stand =
-      let here : AllStand b run.opening (first_in g) g.common g.sessions = subst (StandsOr b run.opening (first_in g) g.common g.sessions) none run.stands in
-      let F : State → Type 0 = λ o. AllStand b o (first_in g) g.common g.sessions in
+      let here : AllStand b run.opening is.first g.common g.sessions = subst (StandsOr b run.opening is.first g.common g.sessions) none run.stands in
+      let F : State → Type 0 = λ o. AllStand b o is.first g.common g.sessions in
       subst F over here
 
   stands_now : standing_of opening g ≡ stand.scene.standing

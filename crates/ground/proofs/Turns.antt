@@ -3,7 +3,7 @@ use Rattle.std.proofs.Common.{◌≡◌, ◌≢◌, inl, inr, ℕ, ◌-◌, ◌�
 use Rattle.std.specs.Prelude.{slice_get, slice_set}
 use Rattle.std.specs.Option.{option_map_or}
 use Rattle.pair_store.specs.declared.store.Blocks.{Ghosts}
-use Rattle.recovery.specs.Opening.{IsOpening}
+use Rattle.ground_model.specs.Opened.{IsOpenedFrom}
 use Rattle.recovery.specs.declared.opened.OpenedOver.{OpenedOver}
 use Rattle.script_text.specs.ScriptValue.{ScriptValue}
 use Rattle.script_text.specs.declared.reply.LineReply.{LineReply}
@@ -104,21 +104,21 @@ module _ {D : Type 0} (b : Ghosts D) (opened : OpenedOver D) (c c' : Common D) (
 
   -- ---- the whole
 
-  turned_in : b.tells → (h : HasRun b before) → TurnEnds b h.opening (scripts_of sessions) opened.since h.stands.scene c c' s.script s.course s'.course result
-  turned_in tells h = call.turns tells h.opening (scripts_of sessions) opened.since h.stands.scene (record { stands = h.stands.stands; mine = h.stands.own i s at })
+  turned_in : b.tells → (first : ℕ) (h : HasRun b first before) → TurnEnds b h.opening (scripts_of sessions) first h.stands.scene c c' s.script s.course s'.course result
+  turned_in tells first h = call.turns tells h.opening (scripts_of sessions) first h.stands.scene (record { stands = h.stands.stands; mine = h.stands.own i s at })
 
-  keeps_run : b.tells → AreClients sessions → HasRun b before → HasRun b after
-  keeps_run tells clients h = record {
+  keeps_run : b.tells → AreClients sessions → (first : ℕ) → HasRun b first before → HasRun b first after
+  keeps_run tells clients first h = record {
     opening = h.opening;
     found = h.found;
-    stands = ends h.opening opened.since clients h.stands result still call.lines (turned_in tells h);
+    stands = ends h.opening first clients h.stands result still call.lines (turned_in tells first h);
   }
 
   pub keeps : IsGround b before → IsGround b after
   keeps h = record {
     size = call.numbers.size ∙ h.size;
     safe = safe_stays h.safe;
-    told = λ tells is. keeps_run tells h.safe.clients (h.told tells is);
+    told = λ tells first is. keeps_run tells h.safe.clients first (h.told tells first is);
   }
 
   -- ---- answers
@@ -187,7 +187,7 @@ module _ {D : Type 0} (b : Ghosts D) (opened : OpenedOver D) (c c' : Common D) (
     my_place = ap (slice_get (slice_set sessions i s')) (sym place) ∙ set_here sessions i s s' at
 
     run_of : (o : State) → IsRunOf b before o → IsRunOf b after o
-    run_of o is = record { tells = is.tells; opened = is.opened; found = is.found }
+    run_of o is = record { tells = is.tells; first = is.first; opened = is.opened; found = is.found }
 
     pub timely : IsGround b after → (o : State) → IsRunOf b before o → after.fault ≡ None → IsTimely o after k
     timely ground o is none = timely_here b after ground o (run_of o is) none k number s' my_place
@@ -210,19 +210,19 @@ module _ {D : Type 0} (b : Ghosts D) (opened : OpenedOver D) (c c' : Common D) (
 
     -- ---- faults
 
-    pub stopped : (b.tells → IsOpening b opened → HasRun b before) → IsStoppedBy b before after result
+    pub stopped : (b.tells → (first : ℕ) → IsOpenedFrom b opened first → HasRun b first before) → IsStoppedBy b before after result
     stopped has h none is =
         let was = call.stopped h is in
         record { failed = was.failed; last = elim was.last [ inl e ↦ inl e | inr e ↦ inr (e.0, not_run e.1) ] }
       where
         not_run : (b.tells → IsLost b IsOwn s.script c s.course) → (opening : State) → IsRunOf b before opening → ⊥
         not_run lost o is =
-            let h = has is.tells is.opened in
-            lost is.tells h.opening (scripts_of sessions) opened.since h.stands.scene (record { stands = h.stands.stands; mine = h.stands.own i s at })
+            let h = has is.tells is.first is.opened in
+            lost is.tells h.opening (scripts_of sessions) is.first h.stands.scene (record { stands = h.stands.stands; mine = h.stands.own i s at })
 
     -- ---- entries
 
-    module _ (o : State) (clients : AreClients sessions) (h : HasRun b before) (same : h.opening ≡ o) where
+    module _ (o : State) (clients : AreClients sessions) (first : ℕ) (h : HasRun b first before) (same : h.opening ≡ o) where
       stood : h.stands.scene.standing ≡ standing_after o (scripts_of sessions) (entries_of c)
       stood = sym h.stands.stands.stands.reaches.leads ∙ ap (λ (x : State). standing_after x (scripts_of sessions) (entries_of c)) same
 
@@ -232,17 +232,17 @@ module _ {D : Type 0} (b : Ghosts D) (opened : OpenedOver D) (c c' : Common D) (
       abbrev legal : List Entry → State → Type 0
       legal es x = IsLegalFrom (scripts_of sessions) (start x (scripts_of sessions)) es
 
-      noted : TurnGoes b h.opening (scripts_of sessions) opened.since h.stands.scene c c' s.script s'.course → HasNoted b o before after k
+      noted : TurnGoes b h.opening (scripts_of sessions) first h.stands.scene c c' s.script s'.course → HasNoted b o before after k
       noted g =
           entries_noted b o before after k s'.course.client h.stands.scene.standing g.es stood mine g.goes.entries g.goes.of_client
           (subst (legal (entries_of c')) same g.goes.stands.stands.reaches.legal) g.moments
 
-      halted : StopsWith b h.opening (scripts_of sessions) opened.since h.stands.scene c c' s'.course.client → HasNoted b o before after k
+      halted : StopsWith b h.opening (scripts_of sessions) first h.stands.scene c c' s'.course.client → HasNoted b o before after k
       halted g =
           entries_noted b o before after k s'.course.client h.stands.scene.standing g.es stood mine g.entries g.of_client
           (subst (legal (entries_of c')) same g.stopped.reaches.legal) (unmoved_moments (b.moment c'.store) g.es g.unmoved)
 
-      notes_by : (r : Turned) → TurnEnds b h.opening (scripts_of sessions) opened.since h.stands.scene c c' s.script s.course s'.course r → HasNoted b o before after k × IsNeverBad r
+      notes_by : (r : Turned) → TurnEnds b h.opening (scripts_of sessions) first h.stands.scene c c' s.script s.course s'.course r → HasNoted b o before after k × IsNeverBad r
       notes_by (turned.Line n) g = (noted g, λ block why is. absurd cc)
       notes_by turned.Again g = (noted g, λ block why is. absurd cc)
       notes_by (turned.Work job) g = (noted g, λ block why is. absurd cc)
@@ -250,11 +250,11 @@ module _ {D : Type 0} (b : Ghosts D) (opened : OpenedOver D) (c c' : Common D) (
       notes_by (turned.Stopped (Drive half)) g = (halted g, λ block why is. absurd cc)
       notes_by (turned.Stopped (Bad block why)) g = absurd g
 
-    pub notes : AreClients sessions → (b.tells → IsOpening b opened → HasRun b before) → (opening : State) → IsRunOf b before opening → HasNoted b opening before after k × IsNeverBad result
+    pub notes : AreClients sessions → (b.tells → (first : ℕ) → IsOpenedFrom b opened first → HasRun b first before) → (opening : State) → IsRunOf b before opening → HasNoted b opening before after k × IsNeverBad result
     notes clients has o is =
-        let h : HasRun b before = has is.tells is.opened in
+        let h : HasRun b is.first before = has is.tells is.first is.opened in
         let same : h.opening ≡ o = (let one = h.found in let two = is.found in cc (one, two)) in
-        notes_by o clients h same result (turned_in is.tells h)
+        notes_by o clients is.first h same result (turned_in is.tells is.first h)
 
 -- ---- as a run sees it
 

@@ -1,10 +1,10 @@
 -- What a run of clients keeps in its type.
 use Rattle.std.specs.Prelude.{◌≡◌, ℕ, suc, ◌+◌, ◌≤◌, List, length, sum_by, Option, None, Some, Ok, slice_get}
 use Rattle.pair_store.specs.declared.store.Blocks.{Ghosts}
-use Rattle.recovery.specs.Opening.{IsOpening}
 use Rattle.service_model.specs.Standing.{Scripts, client_of}
 use Rattle.store_model.specs.Found.{found}
 use Rattle.tree_model.specs.States.{State}
+use Rattle.ground_model.specs.Opened.{IsOpenedFrom}
 use Rattle.ground_model.specs.Scenes.{Scene}
 use Rattle.ground_model.specs.Stops.{HasStopped}
 use Rattle.session.specs.Own.{IsOwn}
@@ -68,11 +68,11 @@ StandsOr b opening first c sessions (Some (Drive half)) =
 StandsOr b opening first c sessions (Some (Bad block why)) = ⊥
 
 -- The run began over the state that was found as its store was opened, and it stands, or a fault
--- stopped it.
-pub record HasRun {D : Type 0} (b : Ghosts D) (g : GroundValue D) : Type 0 where
+-- stopped it. Of images it is said what a crash from the moment `first` on leaves.
+pub record HasRun {D : Type 0} (b : Ghosts D) (first : ℕ) (g : GroundValue D) : Type 0 where
   pub opening : State
   pub found : found (b.content g.opened.store) (b.size g.opened.store) ≡ Ok opening
-  pub stands : StandsOr b opening g.opened.since g.common g.sessions g.fault
+  pub stands : StandsOr b opening first g.common g.sessions g.fault
 
 -- ---- the whole
 
@@ -81,4 +81,4 @@ pub record HasRun {D : Type 0} (b : Ghosts D) (g : GroundValue D) : Type 0 where
 pub record IsGround {D : Type 0} (b : Ghosts D) (g : GroundValue D) : Type 0 where
   pub size : b.size g.common.store ≡ b.size g.opened.store
   pub safe : IsSafeRun b.size g.common g.sessions
-  pub told : b.tells → IsOpening b g.opened → HasRun b g
+  pub told : b.tells → (first : ℕ) → IsOpenedFrom b g.opened first → HasRun b first g

@@ -2,7 +2,7 @@
 use Rattle.std.specs.Prelude.{◌≡◌, ℕ, ◌<◌, ◌≤◌, List, [], ◌∷◌, length, map, Option, Some, None, Ok, option_map, option_and_then, slice_get}
 use Rattle.drives.specs.declared.device.Half.{Half}
 use Rattle.ground_model.specs.Fronts.{AllRecovered}
-use Rattle.ground_model.specs.Runs.{images_of}
+use Rattle.ground_model.specs.Runs.{IsCalm, images_of}
 use Rattle.ground_model.specs.Scenes.{HasVersion, IsAsMade}
 use Rattle.ground_model.specs.Stops.{IsFoundAfter}
 use Rattle.pair_store.specs.declared.store.Blocks.{Ghosts}
@@ -14,7 +14,7 @@ use Rattle.session.specs.declared.turned.Fault.TheVariants.{Drive}
 use Rattle.store_model.specs.Found.{LaidStore, found, laid}
 use Rattle.store_model.specs.Laid.{LaidVersion}
 use Rattle.tree_model.specs.States.{File, State, Version, file_of, last_version}
-use Rattle.ground.specs.Runs.{GroundValue, entries_in, first_in, journal_in, scripts_in, store_in, told_in}
+use Rattle.ground.specs.Runs.{GroundValue, entries_in, journal_in, scripts_in, store_in, told_in}
 use Rattle.ground.specs.Turning.{replies_of}
 
 -- ---- what files keep
@@ -40,14 +40,15 @@ AreMade store made =
     → (has : HasVersion store m.object version) → version.serial ≡ m.serial → 1 ≤ has.place
     → IsAsMade m version
 
--- Nothing is in doubt. The state to which the journal leads is found, its blocks are settled in
--- every image, what is known of the versions that its files keep is so, and the versions that were
--- made are as they were made.
-pub record IsStanding {D : Type 0} (b : Ghosts D) (g : GroundValue D)
+-- Nothing is in doubt. The state to which the journal leads is found, its blocks are settled, in
+-- every image too where images are spoken of, what is known of the versions that its files keep is
+-- so, and the versions that were made are as they were made.
+pub record IsStanding {D : Type 0} (b : Ghosts D) (first : ℕ) (g : GroundValue D)
     (standing : Standing) : Type 0 where
   pub doubt : (journal_in g).doubt ≡ None
   pub state : found (b.content (store_in g)) (b.size (store_in g)) ≡ Ok standing.state
-  pub settled : (n : ℕ) → n < standing.state.blocks → b.settled_always (store_in g) n
+  pub settled : (n : ℕ) → n < standing.state.blocks → b.settled (store_in g) n
+  pub calm : IsCalm b first standing.state.blocks (store_in g)
   pub told : told_in g ≡ map kept_of standing.state.files
   pub made : (store : LaidStore) (places : List ℕ)
       → laid (b.content (store_in g)) (b.size (store_in g)) [] ≡ Ok (store, places)
@@ -68,21 +69,22 @@ pub record IsStopped {D : Type 0} (b : Ghosts D) (g : GroundValue D) (standing :
 
 -- ---- the whole
 
-abbrev pub StandsNow : {D : Type 0} → Ghosts D → GroundValue D → Standing → Option Fault → Type 0
-StandsNow b g standing None = IsStanding b g standing
-StandsNow b g standing (Some fault) = IsStopped b g standing fault
+abbrev pub StandsNow : {D : Type 0} → Ghosts D → ℕ → GroundValue D → Standing → Option Fault
+    → Type 0
+StandsNow b first g standing None = IsStanding b first g standing
+StandsNow b first g standing (Some fault) = IsStopped b g standing fault
 
 -- The journal is legal over the state that was found as the store was opened, and leads to what
 -- stands now; the answers of the clients are those to which it leads. Each image of each moment
--- since then holds the state after a front of the journal, which has each entry that was
+-- from `first` on holds the state after a front of the journal, which has each entry that was
 -- acknowledged by then, and at most one more that changes the state; or after all of it and the
 -- entry in doubt.
-pub record IsPromised {D : Type 0} (b : Ghosts D) (opening : State)
+pub record IsPromised {D : Type 0} (b : Ghosts D) (opening : State) (first : ℕ)
     (g : GroundValue D) : Type 0 where
   pub standing : Standing
   pub legal : Reaches opening (scripts_in g) (entries_in g) standing
   pub answers : (k : ℕ) → 1 ≤ k → k ≤ length g.sessions
       → replies_of g k ≡ (client_of standing k).answers
-  pub stands : StandsNow b g standing g.fault
+  pub stands : StandsNow b first g standing g.fault
   pub recovered : AllRecovered (images_of b (b.size (store_in g))) opening (scripts_in g)
-      (first_in g) (store_in g) (journal_in g)
+      first (store_in g) (journal_in g)

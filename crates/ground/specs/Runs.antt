@@ -21,7 +21,7 @@ pub record GroundValue (D : Type 0) : Type 0 where
 abbrev pub scripts_of : List Session → Scripts
 scripts_of sessions = map (λ (s : Session). s.script) sessions
 
--- The run's scripts, what it did so far, its store, and the first moment that its images are of.
+-- The run's scripts, what it did so far, and its store.
 abbrev pub scripts_in : {D : Type 0} → GroundValue D → Scripts
 scripts_in g = scripts_of g.sessions
 
@@ -33,9 +33,6 @@ entries_in g = g.common.log.journal.entries.items
 
 abbrev pub store_in : {D : Type 0} → GroundValue D → D
 store_in g = g.common.store
-
-abbrev pub first_in : {D : Type 0} → GroundValue D → ℕ
-first_in g = g.opened.since
 
 -- The serials of the first and of the last version that is known to be kept of each object, object
 -- 1 first, where it is live.

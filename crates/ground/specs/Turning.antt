@@ -2,11 +2,12 @@
 use Rattle.std.specs.Prelude.{◌≡◌, ◌≢◌, ℕ, ◌-◌, ◌^◌, ◌<◌, ◌≤◌, List, [], ◌∷◌, ◌++◌, length, Option, Some, None, Ok, slice_get}
 use Rattle.std.specs.Option.{option_map_or}
 use Rattle.drives.specs.declared.device.Half.{Half}
+use Rattle.ground_model.specs.Opened.{IsOpenedFrom}
 use Rattle.ground_model.specs.Bounds.{line_bound}
 use Rattle.ground_model.specs.Fronts.{AreOfTurn}
 use Rattle.page_codec.specs.declared.why.Why.{Why}
 use Rattle.pair_store.specs.declared.store.Blocks.{Ghosts}
-use Rattle.recovery.specs.Opening.{IsFailed, IsOpening}
+use Rattle.recovery.specs.Opening.{IsFailed}
 use Rattle.script_text.specs.declared.reply.LineReply.{LineReply}
 use Rattle.script_text.specs.declared.script.Line.{Line}
 use Rattle.service_model.specs.declared.journal.Entry.{Entry}
@@ -104,10 +105,12 @@ pub record IsAnswered {D : Type 0} (g : GroundValue D) (k number : ℕ)
 -- ---- where contents are told
 
 -- The run is over a store as an opening leaves it, whose contents are told, and in which this state
--- was found.
+-- was found. Of images it is said what a crash from the moment `first` on leaves: where nothing was
+-- pending that is the moment at which the opening began, and else one that never comes.
 pub record IsRunOf {D : Type 0} (b : Ghosts D) (g : GroundValue D) (opening : State) : Type 0 where
   pub tells : b.tells
-  pub opened : IsOpening b g.opened
+  pub first : ℕ
+  pub opened : IsOpenedFrom b g.opened first
   pub found : found (b.content g.opened.store) (b.size g.opened.store) ≡ Ok opening
 
 -- Entries came to the journal: they are of this client, legal and due where the journal stood, and

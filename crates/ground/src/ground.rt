@@ -249,8 +249,8 @@ impl<B: Blocks> GroundOver<B> {
     /// Runs nothing. Its contract: what is promised of the run, over a store as an opening leaves
     /// it.
     pub fn promise(&self)
-        ensures { (opening : State) → IsRunOf B.Blocks self.now opening
-            → IsPromised B.Blocks opening self.now }
+        ensures { (opening : State) (run : IsRunOf B.Blocks self.now opening)
+            → IsPromised B.Blocks opening run.first self.now }
     {
         let _common = &self.common;
     }
@@ -258,8 +258,8 @@ impl<B: Blocks> GroundOver<B> {
     /// The end of the run: its store, and what it did.
     pub fn end(self) -> (B, Journal)
         ensures parts { result ≡ (store_in self, journal_in self) }
-        ensures promise { (opening : State) → IsRunOf B.Blocks self opening
-            → IsPromised B.Blocks opening self }
+        ensures promise { (opening : State) (run : IsRunOf B.Blocks self opening)
+            → IsPromised B.Blocks opening run.first self }
     {
         let GroundOver { common, .. } = self;
         common.end()

@@ -1,6 +1,7 @@
 use Rattle.std.proofs.Common.{◌-◌, length, ap, arith}
 use Rattle.ground.specs.Runs.{GroundValue}
 use Rattle.ground.proofs.Clients.{at_of}
+use Rattle.ground.proofs.Halts.{never_bad}
 use Rattle.ground.proofs.Turns.{came}
 use Rattle.ground.proofs.ground.GroundOver.turn.Goals as goal
 
@@ -22,6 +23,9 @@ invariant_of-self g c =
       still = c.turn-turned.ensures.still;
       call = c.turn-turned.ensures.turn;
     }) c.fault_of-self-inside.result c.fault_of-self-inside.ensures).keeps
+
+pub returns-in-Some-clause-good : goal.returns-in-Some-clause-good
+returns-in-Some-clause-good g c = never_bad _ _ _ c.in-Some.fault c.self.view_is c.self.invariant c.in-Some.is
 
 pub returns : goal.returns
 returns g c =
