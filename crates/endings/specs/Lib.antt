@@ -4,3 +4,4 @@ pub mod Texts
 pub mod Printing
 pub mod Noted
 pub mod Commands
+pub mod Files

@@ -1,8 +1,6 @@
 -- What `show` prints of a state.
-use Rattle.std.specs.Prelude.{ℕ, ◌+◌, ◌-◌, List, [], ◌∷◌, ◌++◌, codes, Option, Some, None}
-use Rattle.std.specs.Fmt.{decimal}
-use Rattle.std.specs.List.{flat_map, range_with_len}
-use Rattle.script_text.specs.ReplyText.{spaced}
+use Rattle.std.specs.Prelude.{ℕ, ◌+◌, List, [], ◌∷◌, ◌++◌, Option, Some, None}
+use Rattle.endings.specs.Files.{file_line, kept_serials}
 use Rattle.service_model.specs.Print.{file_text}
 use Rattle.tree_listing.specs.TreeText.{tree_text}
 use Rattle.tree_model.specs.States.{State, File, Version, last_version}
@@ -28,8 +26,8 @@ show_text state = shown_files 1 state.files
 
 -- the serials of the versions that are kept, the first one in any case
 abbrev pub head_serials : Head → List ℕ
-head_serials head = head.first ∷ range_with_len (head.first + 1) (head.serial - head.first)
+head_serials head = kept_serials head.first head.serial
 
 -- the line of a file
 abbrev pub head_line : ℕ → Head → List ℕ
-head_line object head = codes "file " ++ (decimal object ++ (codes ":" ++ (flat_map spaced (head_serials head) ++ 10 ∷ [])))
+head_line object head = file_line object head.first head.serial

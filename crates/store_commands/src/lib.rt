@@ -13,4 +13,5 @@ mod text;
 pub use cap::afs_cap;
 pub use check::afs_check;
 pub use formatting::afs_format;
+pub use refused::end_refused;
 pub use show::afs_show;

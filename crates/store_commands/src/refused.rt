@@ -8,8 +8,8 @@ use recovery::OpenRefused;
 use script_text::Sink;
 use std::alloc::Global;
 
-/// Ends a command over halves that were not opened, for this cause.
-pub(crate) fn end_refused<K: Sink>(alloc: Global, out: &mut K, why: OpenRefused) -> Status
+/// Ends a call over halves that were not opened, for this cause.
+pub fn end_refused<K: Sink>(alloc: Global, out: &mut K, why: OpenRefused) -> Status
     ensures ends { RefusedEnds (K.written out.old) (K.written out.new)
         (Rose (K.faults out.old) (K.faults out.new)) why result }
     ensures later { K.faults out.old ≤ K.faults out.new }

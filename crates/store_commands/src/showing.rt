@@ -1,62 +1,23 @@
 // The text that `show` prints of a store that was opened.
-ghost use Rattle.std.specs.Prelude.{◌≡◌, ◌⊎◌, ◌≤◌, ◌+◌, ◌++◌, ℕ, List, IfOk, IsErrOf, OnOk, OnErr, string_bytes};
-ghost use Rattle.std.specs.List.{flat_map};
+ghost use Rattle.std.specs.Prelude.{◌≡◌, ◌⊎◌, ◌≤◌, ◌+◌, ◌++◌, ℕ, List, IsErrOf, OnOk};
 ghost use Rattle.afs_base.specs.Causes.{Rose};
 ghost use Rattle.drives.specs.declared.device.Half.{Half};
 ghost use Rattle.pair_store.specs.Faults.{IsStopped};
-ghost use Rattle.script_text.specs.ReplyText.{spaced};
 ghost use Rattle.store_model.specs.Laws.{pages_of};
 ghost use Rattle.store_check.specs.Since.{IsUnreadSince, OnlyRead};
 ghost use Rattle.tree_model.specs.States.{File};
 ghost use Rattle.store_check.specs.declared.refused.WalkRefused.{WalkRefused};
 ghost use Rattle.tree_listing.specs.Results.{Gives};
-ghost use Rattle.store_commands.specs.Showing.{head_line, head_serials, shown_file, shown_files};
+ghost use Rattle.store_commands.specs.Showing.{shown_file, shown_files};
 ghost use Rattle.store_commands.specs.Shows.{AreObjects, IsObject, ShowEnds, UnlistedEnds};
 
 use afs_base::Head;
-use endings::{Status, end_bad_store, end_drive, end_memory, finish};
+use endings::{Status, append_file_line, end_bad_store, end_drive, end_memory, finish};
 use pair_store::Blocks;
 use script_text::Sink;
-use std::alloc::{AllocError, Global};
-use std::fmt::Write;
+use std::alloc::Global;
 use store_check::WalkRefused;
 use tree_listing::list_tree;
-
-/// The serials of the versions that are kept, each after a space.
-fn serials_text(alloc: Global, head: &Head) -> Result<String, AllocError>
-    ensures { IfOk result (λ text. string_bytes text ≡ flat_map spaced (head_serials head.now)) }
-{
-    let first = head.first;
-    let more = head.serial.saturating_sub(first);
-    let mut text = format!(in alloc; " {first}")?;
-    'later: for k in 0..more {
-        let serial = first + 1 + k;
-        write!(text, " {serial}")?;
-    }
-    Ok(text)
-}
-
-/// The line of a file.
-fn head_line(alloc: Global, object: usize, head: &Head) -> Result<String, AllocError>
-    ensures { IfOk result (λ line. string_bytes line ≡ head_line object head.now) }
-{
-    let serials = serials_text(alloc, head)?;
-    format!(in alloc; "file {object}:{serials}\n")
-}
-
-/// Appends the line of a file. Without memory for it nothing is appended.
-fn append_line(
-    alloc: Global,
-    object: usize,
-    head: &Head,
-    text: &mut Vec<u8>,
-) -> Result<(), AllocError>
-    ensures line { OnOk result (text.new.items ≡ text.old.items ++ head_line object head.now) }
-    ensures same { OnErr result (text.new.items ≡ text.old.items) }
-{
-    let line = head_line(alloc, object, head)?;
-    text.extend_from_slice(line.as_bytes())
-}
 
 /// Appends what is printed of an object: nothing where it is not live.
 fn append_object<B: Blocks>(
@@ -85,7 +46,7 @@ fn append_object<B: Blocks>(
     match head {
         None => Ok(()),
         Some(head) => {
-            append_line(alloc, object, head, text)?;
+            append_file_line(alloc, object, head.first, head.serial, text)?;
             list_tree(alloc, store, head.block, text)
         }
     }

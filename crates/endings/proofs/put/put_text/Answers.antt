@@ -1,4 +1,4 @@
-use Rattle.std.proofs.Common.{◌≡◌, ◌++◌, ◌∙◌, arith}
+use Rattle.std.proofs.Common.{◌≡◌, ◌++◌, ◌∙◌}
 use Rattle.script_text.specs.Front.{AppendsFront}
 use Rattle.endings.proofs.Printing.{of_err, printed_front, printed_more}
 use Rattle.endings.proofs.put.put_text.Goals as goal
