@@ -2,8 +2,10 @@
 #![tactic(auto)]
 
 mod call;
+mod order;
 
 pub use call::{Call, call_of};
+pub use order::Order;
 
 #[cfg(test)]
 mod tests;

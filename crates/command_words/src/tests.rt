@@ -2,8 +2,19 @@
 ghost use Rattle.std.specs.Prelude.{◌≡◌};
 
 use crate::*;
+use afs_base::Memory;
 use std::alloc::{AllocError, Global};
+use std::fmt::Write;
 use std::test::*;
+
+/// The words of a call `play` with these clients.
+fn play_words(alloc: Global, order: &[u8]) -> Result<String, AllocError> {
+    let mut words = String::from_str(alloc, "play")?;
+    for client in order {
+        write!(words, " {client}")?;
+    }
+    Ok(words)
+}
 
 /// The words of a call, and `usage` where there is none.
 fn shown(alloc: Global, call: Option<Call>) -> Result<String, AllocError> {
@@ -11,7 +22,7 @@ fn shown(alloc: Global, call: Option<Call>) -> Result<String, AllocError> {
         Some(Call::Format { store }) => {
             format!(in alloc; "format {} {} {}", store.key, store.files, store.blocks)
         }
-        Some(Call::Play) => String::from_str(alloc, "play"),
+        Some(Call::Play { order }) => play_words(alloc, order.as_slice()),
         Some(Call::Show) => String::from_str(alloc, "show"),
         Some(Call::Check) => String::from_str(alloc, "check"),
         Some(Call::Cap { object, rights }) => format!(in alloc; "cap {object} {rights}"),
@@ -31,7 +42,10 @@ fn words_of(alloc: Global, text: &str) -> Result<Vec<String>, AllocError> {
 /// What these words are shown as, with so many scripts and over drives of so many blocks.
 fn answer(alloc: Global, text: &str, scripts: usize, blocks: u32) -> Result<String, AllocError> {
     let words = words_of(alloc, text)?;
-    shown(alloc, call_of(&words, scripts, blocks))
+    match call_of(alloc, &words, scripts, blocks) {
+        Ok(call) => shown(alloc, call),
+        Err(Memory) => Err(AllocError),
+    }
 }
 
 /// The words themselves where they are a command.
@@ -52,7 +66,10 @@ fn five_forms_are_commands_and_all_else_is_usage(rt: HostRuntime) -> Result<(), 
         ("cap 1 255", 0, 64, true),
         ("format 7 2 64", 1, 64, false),
         ("play", 0, 64, false),
-        ("play", 2, 64, false),
+        ("play", 2, 64, true),
+        ("play", 16, 64, true),
+        ("play", 17, 64, false),
+        ("play", 257, 64, false),
         ("show", 1, 64, false),
         ("check", 1, 64, false),
         ("cap 1 255", 1, 64, false),
@@ -64,7 +81,7 @@ fn five_forms_are_commands_and_all_else_is_usage(rt: HostRuntime) -> Result<(), 
         ("check ", 0, 64, false),
         (" check", 0, 64, false),
         ("checks", 0, 64, false),
-        ("play 1", 1, 64, false),
+        ("plays", 1, 64, false),
         ("show 1", 0, 64, false),
         ("cap", 0, 64, false),
         ("cap 1", 0, 64, false),
@@ -76,6 +93,25 @@ fn five_forms_are_commands_and_all_else_is_usage(rt: HostRuntime) -> Result<(), 
         ("Format 7 2 64", 0, 64, false),
         ("cap 7 2 64", 0, 64, false),
         ("format 1 255", 0, 64, false),
+        // the clients
+        ("play 1", 1, 64, true),
+        ("play 1 1 1", 1, 64, true),
+        ("play 2 2 1 2", 2, 64, true),
+        ("play 16 1 9", 16, 64, true),
+        ("play 1", 0, 64, false),
+        ("play 0", 1, 64, false),
+        ("play 3", 2, 64, false),
+        ("play 1 3 1", 2, 64, false),
+        ("play 1 1 3", 2, 64, false),
+        ("play 17", 16, 64, false),
+        ("play 257", 16, 64, false),
+        ("play 01", 1, 64, false),
+        ("play +1", 1, 64, false),
+        ("play 1 ", 1, 64, false),
+        ("play  1", 1, 64, false),
+        ("play 1 x", 1, 64, false),
+        ("play 1 show", 1, 64, false),
+        ("show 1 play", 1, 64, false),
         // what is no number
         ("format 07 2 64", 0, 64, false),
         ("format 7 02 64", 0, 64, false),
@@ -138,7 +174,10 @@ fn five_forms_are_commands_and_all_else_is_usage(rt: HostRuntime) -> Result<(), 
             "{text}, {scripts} scripts, {blocks} blocks"
         );
     }
-    let no_words = Vec::new(alloc);
-    assert!(rt; call_of(&no_words, 0, 64).is_none());
+    for scripts in 0..3 {
+        let no_words = Vec::new(alloc);
+        let call = call_of(alloc, &no_words, scripts, 64);
+        assert!(rt; call.ok().ok_or("memory")?.is_none());
+    }
     Ok(())
 }
