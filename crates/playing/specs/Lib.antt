@@ -1,0 +1,11 @@
+pub mod Files
+pub mod Parsing
+pub mod Running
+pub mod Sources
+pub mod Taking
+pub mod Unread
+pub mod Statuses
+pub mod Lines
+pub mod Runs
+pub mod Playing
+pub mod Calls
