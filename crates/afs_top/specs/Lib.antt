@@ -1,12 +1,2 @@
-pub mod Stop
-pub mod Room
-pub mod Reading
-pub mod Script
-pub mod Served
-pub mod Opening
-pub mod Course
-pub mod Cut
-pub mod Output
 pub mod Words
-pub mod Play
 pub mod Serving
