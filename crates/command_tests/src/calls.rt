@@ -5,75 +5,122 @@ use script_text::{MemSink, MemSource};
 use std::alloc::{AllocError, Global};
 use std::process::Abort;
 use std::test::Fail;
+use test_words::put_text;
 
 mod crashes;
 mod cuts;
 mod noise;
 mod plays;
+mod rows;
 mod scripts;
 mod sequences;
 mod stores;
 
-/// A call: its words, the scripts that come with it, and which calls of their sources and of the sink fail.
-type Call<'a> = (&'a [&'a str], &'a [&'a [u8]], &'a [u64], &'a [u64]);
+/// A call: its words; the scripts that come with it, each with `|` behind it and `;` between its lines; and which call
+/// of each of their sources and which one of the sink fails, 0 for none.
+type Call<'a> = (&'a str, &'a str, u64, u64);
 
-/// Bytes to be put at an offset of a half.
-type Patch = (usize, &'static [u8]);
-
-/// What makes a store on blank halves of 64 blocks, if anything does; what is put over half A then and over half B, and
-/// which calls of these halves fail; a call over them; how it ends and what it prints.
+/// The words of a call that makes a store on blank halves of 64 blocks, or none; what is put over half A then and over
+/// half B; which calls of these halves fail; a call over them; how it ends and what it prints.
 type Case = (
-    &'static [&'static str],
-    &'static [Patch],
-    &'static [Patch],
-    &'static [u64],
+    &'static str,
+    &'static str,
+    &'static str,
+    &'static str,
     Call<'static>,
     u8,
-    &'static [u8],
+    &'static str,
 );
 
 /// The new store that is served, one of another key, and blank halves.
-const SERVED: &[&str] = &["format", "7", "2", "64"];
+const SERVED: &str = "format 7 2 64";
 
-const OTHER: &[&str] = &["format", "8", "2", "64"];
+const OTHER: &str = "format 8 2 64";
 
-const BLANK: &[&str] = &[];
+const BLANK: &str = "";
 
-const SHOW: Call = (&["show"], &[], &[], &[]);
+const SHOW: Call = ("show", "", 0, 0);
 
-const CHECK: Call = (&["check"], &[], &[], &[]);
+const CHECK: Call = ("check", "", 0, 0);
 
-const SAMPLE: &[u8] = b"begin 1\nwrite / 6869\nread /\ncommit\n";
+const SAMPLE: &str = "begin 1;write / 6869;read /;commit|";
 
-const PLAY: Call = (&["play"], &[SAMPLE], &[], &[]);
+const PLAY: Call = ("play", SAMPLE, 0, 0);
 
-const ANSWERS: &[u8] =
-    b"1.1 base 1\n1.2 ok\n1.3 data 6869\n1.4 committed 2\nfile 1: 1 2\nfile 2: 1\n";
+/// What calls print, with `;` for each line feed.
+const ANSWERS: &str = "1.1 base 1;1.2 ok;1.3 data 6869;1.4 committed 2;file 1: 1 2;file 2: 1;";
 
 /// What is shown of the new store, and once the sample was played.
-const NEW: &[u8] = b"file 1: 1\n/ -\nfile 2: 1\n/ -\n";
+const NEW: &str = "file 1: 1;/ -;file 2: 1;/ -;";
 
-const PLAYED: &[u8] = b"file 1: 1 2\n/ 6869\nfile 2: 1\n/ -\n";
+const PLAYED: &str = "file 1: 1 2;/ 6869;file 2: 1;/ -;";
 
-fn words_of(alloc: Global, words: &[&str]) -> Result<Vec<String>, AllocError> {
+/// The text with a line feed for each `;`.
+fn lines_of(alloc: Global, text: &str) -> Result<Vec<u8>, AllocError> {
+    let mut bytes = Vec::from_slice(alloc, text.as_bytes())?;
+    for byte in bytes.iter_mut() {
+        if *byte == b';' {
+            *byte = b'\n';
+        }
+    }
+    Ok(bytes)
+}
+
+fn words_of(alloc: Global, text: &str) -> Result<Vec<String>, AllocError> {
     let mut all = Vec::new(alloc);
-    for word in words {
+    for word in text.split(' ') {
         all.push(String::from_str(alloc, word)?)?;
     }
     Ok(all)
 }
 
-fn sources_of(
-    alloc: Global,
-    scripts: &[&[u8]],
-    fails: &[u64],
-) -> Result<Vec<MemSource>, AllocError> {
+/// One number, or none for 0.
+fn one(alloc: Global, number: u64) -> Result<Vec<u64>, AllocError> {
     let mut all = Vec::new(alloc);
-    for script in scripts {
-        let fails = Vec::from_slice(alloc, fails)?;
-        all.push(MemSource::of(Vec::from_slice(alloc, script)?, fails))?;
+    if number > 0 {
+        all.push(number)?;
     }
     Ok(all)
+}
+
+/// A script that a text holds, with a line feed behind each of its lines.
+fn script_of(alloc: Global, text: &str) -> Result<Vec<u8>, AllocError> {
+    let mut script = lines_of(alloc, text)?;
+    if !script.is_empty() {
+        script.push(b'\n')?;
+    }
+    Ok(script)
+}
+
+fn sources_of(alloc: Global, scripts: &str, fails: u64) -> Result<Vec<MemSource>, AllocError> {
+    let mut all = Vec::new(alloc);
+    let Some(texts) = scripts.strip_suffix('|') else {
+        return Ok(all);
+    };
+    for text in texts.split('|') {
+        all.push(MemSource::of(script_of(alloc, text)?, one(alloc, fails)?))?;
+    }
+    Ok(all)
+}
+
+/// What a call is given beside the drives.
+#[derive(Drop)]
+struct Given {
+    words: Vec<String>,
+    scripts: Vec<MemSource>,
+    out: MemSink,
+}
+
+fn make_given(alloc: Global, call: Call) -> Result<Given, AllocError> {
+    let (words, scripts, source, sink) = call;
+    let out = MemSink::of(Vec::new(alloc), one(alloc, sink)?);
+    let scripts = sources_of(alloc, scripts, source)?;
+    let words = words_of(alloc, words)?;
+    Ok(Given {
+        words,
+        scripts,
+        out,
+    })
 }
 
 /// Makes a call.
@@ -82,36 +129,28 @@ fn called<V: Drives + Drop>(
     call: Call,
     drives: V,
 ) -> Result<(Ended<V>, MemSink), AllocError> {
-    let words = words_of(alloc, call.0)?;
-    let mut scripts = sources_of(alloc, call.1, call.2)?;
-    let mut out = MemSink::of(Vec::new(alloc), Vec::from_slice(alloc, call.3)?);
+    let Given {
+        words,
+        mut scripts,
+        mut out,
+    } = make_given(alloc, call)?;
     let ended = afs_words(alloc, &words, drives, &mut scripts, &mut out);
     Ok((ended, out))
 }
 
 /// Halves of 64 blocks after a call without scripts; with no words they are blank.
-fn made(alloc: Global, words: &[&str]) -> Result<MemDrives, Fail> {
+fn made(alloc: Global, words: &str) -> Result<MemDrives, Fail> {
     let drives = MemDrives::blank(alloc, 64)?;
     if words.is_empty() {
         return Ok(drives);
     }
-    Ok(called(alloc, (words, &[], &[], &[]), drives)?.0.drives)
+    Ok(called(alloc, (words, "", 0, 0), drives)?.0.drives)
 }
 
-fn put(half: &mut Vec<u8>, at: usize, bytes: &[u8]) {
-    for (k, byte) in bytes.iter().enumerate() {
-        if let Some(place) = half.get_mut(at.saturating_add(k)) {
-            *place = *byte;
-        }
-    }
-}
-
-/// A half with these patches.
-fn patched(alloc: Global, half: &[u8], patches: &[Patch]) -> Result<Vec<u8>, AllocError> {
+/// A half with the words of a text over it.
+fn patched(alloc: Global, half: &[u8], text: &str) -> Result<Vec<u8>, Fail> {
     let mut half = Vec::from_slice(alloc, half)?;
-    for (at, bytes) in patches {
-        put(&mut half, *at, *bytes);
-    }
+    put_text(&mut half, text).ok_or("no words of a half")?;
     Ok(half)
 }
 
@@ -124,47 +163,69 @@ fn of_two(alloc: Global, a: Vec<u8>, b: Vec<u8>) -> Result<MemDrives, Fail> {
     Ok(MemDrives::of_halves(alloc, a, b)?)
 }
 
-/// Halves of 64 blocks after a call without scripts, with these patches of each.
-fn begun(alloc: Global, words: &[&str], a: &[Patch], b: &[Patch]) -> Result<MemDrives, Fail> {
-    let drives = made(alloc, words)?;
-    let a = patched(alloc, drives.half_bytes(Half::A), a)?;
-    let b = patched(alloc, drives.half_bytes(Half::B), b)?;
+/// Half A of the first drives and half B of the second, with these words over each.
+fn joined(
+    alloc: Global,
+    first: &MemDrives,
+    second: &MemDrives,
+    a: &str,
+    b: &str,
+) -> Result<MemDrives, Fail> {
+    let a = patched(alloc, first.half_bytes(Half::A), a)?;
+    let b = patched(alloc, second.half_bytes(Half::B), b)?;
     of_two(alloc, a, b)
 }
 
-/// Compares how a call ended and what it printed.
-fn expect(rt: &impl Abort, row: usize, ends: (u8, &MemSink), expected: (u8, &[u8])) {
-    assert_eq!(rt; ends.1.bytes(), expected.1, "row {row}");
+/// Halves of 64 blocks after a call without scripts, with these words over each.
+fn begun(alloc: Global, words: &str, a: &str, b: &str) -> Result<MemDrives, Fail> {
+    let drives = made(alloc, words)?;
+    joined(alloc, &drives, &drives, a, b)
+}
+
+/// The numbers of a text, parted by spaces.
+fn numbers_of(alloc: Global, text: &str) -> Result<Vec<u64>, Fail> {
+    let mut all = Vec::new(alloc);
+    for word in text.split(' ') {
+        if !word.is_empty() {
+            all.push(word.parse::<u64>().ok().ok_or("no number")?)?;
+        }
+    }
+    Ok(all)
+}
+
+/// Compares how a call ended and what it printed, by a text with `;` for each line feed.
+fn expect(
+    rt: &(impl Abort + AllocGlobal),
+    row: usize,
+    ends: (u8, &MemSink),
+    expected: (u8, &str),
+) -> Result<(), AllocError> {
+    let text = lines_of(rt.alloc(), expected.1)?;
+    assert_eq!(rt; ends.1.bytes(), text.as_slice(), "row {row}");
     assert_eq!(rt; ends.0, expected.0, "row {row}");
+    Ok(())
 }
 
 /// Makes the call of a case, looks at how it ends, and gives the halves back.
-fn try_case(rt: &impl Abort, alloc: Global, row: usize, case: &Case) -> Result<MemDrives, Fail> {
+fn try_case(rt: &(impl Abort + AllocGlobal), row: usize, case: &Case) -> Result<MemDrives, Fail> {
     let (words, a, b, failing, call, code, text) = *case;
-    let mut drives = begun(alloc, words, a, b)?;
-    drives.fail_at(Vec::from_slice(alloc, failing)?);
-    let (ended, out) = called(alloc, call, drives)?;
-    expect(rt, row, (ended.status.code(), &out), (code, text));
+    let fails = numbers_of(rt.alloc(), failing)?;
+    let mut drives = begun(rt.alloc(), words, a, b)?;
+    drives.fail_at(fails);
+    let (ended, out) = called(rt.alloc(), call, drives)?;
+    expect(rt, row, (ended.status.code(), &out), (code, text))?;
     Ok(ended.drives)
-}
-
-/// Makes the calls of these cases.
-fn try_all(rt: &impl Abort, alloc: Global, cases: &[Case]) -> Result<(), Fail> {
-    for (row, case) in cases.iter().enumerate() {
-        try_case(rt, alloc, row, case)?;
-    }
-    Ok(())
 }
 
 /// Makes a call, looks at how it ends, and gives the halves back.
 fn answered(
-    rt: &impl Abort,
-    alloc: Global,
+    rt: &(impl Abort + AllocGlobal),
+    row: usize,
     call: Call,
     drives: MemDrives,
-    expected: (u8, &[u8]),
+    expected: (u8, &str),
 ) -> Result<MemDrives, AllocError> {
-    let (ended, out) = called(alloc, call, drives)?;
-    expect(rt, 0, (ended.status.code(), &out), expected);
+    let (ended, out) = called(rt.alloc(), call, drives)?;
+    expect(rt, row, (ended.status.code(), &out), expected)?;
     Ok(ended.drives)
 }

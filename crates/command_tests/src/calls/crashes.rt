@@ -3,12 +3,13 @@ use super::*;
 use drives::Pick;
 
 /// The words that make a store of one file in four blocks.
-const SMALL: Call = (&["format", "7", "1", "4"], &[], &[], &[]);
+const SMALL: Call = ("format 7 1 4", "", 0, 0);
 
-/// Makes it, on halves of four blocks whose calls of these numbers fail.
-fn small(alloc: Global, fails: &[u64]) -> Result<(Ended<MemDrives>, MemSink), Fail> {
+/// Makes it, on halves of four blocks whose call of one number fails; 0 for none.
+fn small(alloc: Global, failing: u64) -> Result<(Ended<MemDrives>, MemSink), Fail> {
+    let fails = one(alloc, failing)?;
     let mut drives = MemDrives::blank(alloc, 4)?;
-    drives.fail_at(Vec::from_slice(alloc, fails)?);
+    drives.fail_at(fails);
     Ok(called(alloc, SMALL, drives)?)
 }
 
@@ -33,36 +34,55 @@ fn are_none_or_new(alloc: Global, drives: &MemDrives, pick: Pick) -> Result<bool
 
 /// From which call to which one the making of the store uses a half, and what is printed where it fails there. One call
 /// finds block 0 closed on half A, one on half B; five write block 1 on half B, five on half A; and so block 0.
-const CALLS: [(u64, u64, &[u8]); 6] = [
-    (1, 1, b"drive A\n"),
-    (2, 2, b"drive B\n"),
-    (3, 7, b"drive B\n"),
-    (8, 12, b"drive A\n"),
-    (13, 17, b"drive B\n"),
-    (18, 22, b"drive A\n"),
+const CALLS: [(u64, u64, &str); 6] = [
+    (1, 1, "drive A;"),
+    (2, 2, "drive B;"),
+    (3, 7, "drive B;"),
+    (8, 12, "drive A;"),
+    (13, 17, "drive B;"),
+    (18, 22, "drive A;"),
 ];
+
+/// Looks at the images of all moments.
+fn leaves_none_or_new(
+    rt: &(impl Abort + AllocGlobal),
+    alloc: Global,
+    drives: &MemDrives,
+) -> Result<(), Fail> {
+    for pick in [Pick::Old, Pick::New, Pick::Fill(0xa5)] {
+        assert!(rt; are_none_or_new(alloc, drives, pick)?);
+    }
+    Ok(())
+}
+
+/// Makes the store with one call that fails, and looks at what is printed and left.
+fn fails_at(
+    rt: &(impl Abort + AllocGlobal),
+    alloc: Global,
+    failing: u64,
+    line: &str,
+) -> Result<(), Fail> {
+    let (ended, out) = small(alloc, failing)?;
+    expect(rt, 0, (ended.status.code(), &out), (3, line))?;
+    leaves_none_or_new(rt, alloc, &ended.drives)
+}
 
 #[test]
 fn each_failing_call_names_its_half_and_leaves_no_store_or_the_new_one(
     rt: HostRuntime,
 ) -> Result<(), Fail> {
-    let alloc = rt.alloc();
-    for (first, last, line) in &CALLS {
-        for failing in *first..=*last {
-            let (ended, out) = small(alloc, &[failing])?;
-            expect(
-                &rt,
-                failing as usize,
-                (ended.status.code(), &out),
-                (3, *line),
-            );
-            for pick in [Pick::Old, Pick::New, Pick::Fill(0xa5)] {
-                assert!(rt; are_none_or_new(alloc, &ended.drives, pick)?);
-            }
+    for (first, last, line) in CALLS {
+        for failing in first..=last {
+            fails_at(&rt, rt.alloc(), failing, line)?;
         }
     }
-    let (ended, out) = small(alloc, &[])?;
-    expect(&rt, 0, (ended.status.code(), &out), (0, b"file 1\n"));
+    Ok(())
+}
+
+#[test]
+fn a_small_store_takes_22_calls(rt: HostRuntime) -> Result<(), Fail> {
+    let (ended, out) = small(rt.alloc(), 0)?;
+    expect(&rt, 0, (ended.status.code(), &out), (0, "file 1;"))?;
     assert_eq!(rt; ended.drives.now(), 22);
     Ok(())
 }

@@ -17,8 +17,8 @@ fn noise(alloc: Global) -> Result<Vec<u8>, AllocError> {
     Ok(bytes)
 }
 
-/// Halves with these bytes, the first eight of which half B leaves out, and with patches of each half.
-fn noisy(alloc: Global, bytes: &[u8], a: &[Patch], b: &[Patch]) -> Result<MemDrives, Fail> {
+/// Halves with these bytes, the first eight of which half B leaves out, and with words over each half.
+fn noisy(alloc: Global, bytes: &[u8], a: &str, b: &str) -> Result<MemDrives, Fail> {
     let all_but_the_last = bytes.get(..LEN).ok_or("as many as a half has")?;
     let all_but_the_first = bytes.get(8..).ok_or("as many as a half has")?;
     of_two(
@@ -29,29 +29,20 @@ fn noisy(alloc: Global, bytes: &[u8], a: &[Patch], b: &[Patch]) -> Result<MemDri
 }
 
 /// The table of a store of two files, 65,536 blocks and the key 7, up to its last live entry.
-const TABLE: Patch = (
-    0,
-    b"\xa5\x54\x01\0\0\x01\0\0\0\0\0\0\0\0\0\x07\0\0\0\x01\0\0\0\x01\xff\xda\x0d\x45\xb7\x60\xbe\xd5\0\0\0\x02\0\0\0\x01\x32\x41\x3d\x93\xa2\x10\xb9\xd9",
-);
+const TABLE: &str =
+    "0.0:a55401000001000000000000000000070000000100000001ffda0d45b760bed5000000020000000132413d93a210b9d9";
 
 /// The whole new store.
-const STORE: [Patch; 6] = [
-    (0, &[0; 3072]),
-    TABLE,
-    (1024, b"\xa5\x56"),
-    (1024 + 73, b"\x01\0\0\0\0\0\0\0\x01"),
-    (2048, b"\xa5\x56"),
-    (2048 + 73, b"\x02\0\0\0\0\0\0\0\x01"),
-];
+const STORE: &str = "0.0:00*3072 \
+    0.0:a55401000001000000000000000000070000000100000001ffda0d45b760bed5000000020000000132413d93a210b9d9 \
+    1.0:a556 1.73:010000000000000001 2.0:a556 2.73:020000000000000001";
 
 /// What is put over each half, the status, and what is printed.
-type Noisy = (&'static [Patch], &'static [Patch], u8, &'static [u8]);
-
-const CASES: [Noisy; 4] = [
-    (&[], &[], 4, b"bad store: block 0 closed\n"),
-    (&[], &[TABLE], 4, b"bad store: block 0 reference\n"),
-    (&STORE, &[], 0, b"files 2 versions 2 blocks 2 free 65533\n"),
-    (&[], &STORE, 0, b"files 2 versions 2 blocks 2 free 65533\n"),
+const CASES: [(&str, &str, u8, &str); 4] = [
+    ("", "", 4, "bad store: block 0 closed;"),
+    ("", TABLE, 4, "bad store: block 0 reference;"),
+    (STORE, "", 0, "files 2 versions 2 blocks 2 free 65533;"),
+    ("", STORE, 0, "files 2 versions 2 blocks 2 free 65533;"),
 ];
 
 #[test]
@@ -60,7 +51,7 @@ fn halves_of_any_bytes_have_an_answer(rt: HostRuntime) -> Result<(), Fail> {
     let bytes = noise(alloc)?;
     for (row, (a, b, status, printed)) in CASES.iter().enumerate() {
         let (ended, out) = called(alloc, CHECK, noisy(alloc, &bytes, *a, *b)?)?;
-        expect(&rt, row, (ended.status.code(), &out), (*status, *printed));
+        expect(&rt, row, (ended.status.code(), &out), (*status, *printed))?;
     }
     Ok(())
 }

@@ -1,56 +1,89 @@
-//! Which texts `play` takes as scripts, over the new store that is served.
+//! Which texts `play` takes as scripts, and long ones.
 use super::*;
 
-/// A text by its parts, one of them repeated, and how many steps it has, where it is a script in shape.
+/// A text by its parts, one of them repeated, and how many lines of it are answered where it is a script, or else what
+/// is printed.
 type Text = (
-    &'static [u8],
-    &'static [u8],
+    &'static str,
+    &'static str,
     usize,
-    &'static [u8],
-    Option<usize>,
+    &'static str,
+    usize,
+    &'static str,
 );
 
-const TEXTS: [Text; 19] = [
-    (b"begin 1\n", b"", 0, b"commit\n", Some(0)),
-    (b"begin 1\n", b"read /\n", 1, b"commit\n", Some(1)),
-    (b"begin 1\n", b"write / -\n", 1, b"commit\n", Some(1)),
+const TEXTS: [Text; 13] = [
+    ("begin 1;", "", 0, "commit", 2, ""),
+    ("begin 1;", "write / 0AfF;", 1, "commit", 3, ""),
+    ("begin 1;write / ", "61", 800, ";read /;commit", 4, ""),
     (
-        b"begin 1\nread /\n",
-        b"write / 6869\n",
-        2,
-        b"commit\n",
-        Some(3),
+        "begin 1;write / ",
+        "61",
+        801,
+        ";commit",
+        0,
+        "script 1 line 2: data;",
     ),
-    (b"begin 1\n", b"write / 0AfF\n", 1, b"commit\n", Some(1)),
-    (b"begin 1\nwrite / ", b"61", 800, b"\ncommit\n", Some(1)),
-    (b"begin 1\n", b"read /\n", 128, b"commit\n", Some(128)),
-    (b"begin 1\n", b"read /\n", 129, b"commit\n", None),
-    (b"begin 1\n", b"begin 1\n", 1, b"commit\n", None),
-    (b"begin 1\n", b"read /\n", 1, b"", None),
-    (b"begin 1\n", b"read /\n", 1, b"commit", None),
-    (b"begin 1\nwrite / ", b"6g", 1, b"\ncommit\n", None),
-    (b"begin 1\nwrite / ", b"686", 1, b"\ncommit\n", None),
-    (b"begin 1\nwrite / ", b"61", 801, b"\ncommit\n", None),
-    (b"begin 1\nwrite / ", b"", 0, b"\ncommit\n", None),
-    (b"begin 1\n", b"read  /\n", 1, b"commit\n", None),
-    (b"begin 1\n", b"write /  6869\n", 1, b"commit\n", None),
-    (b"", b"", 0, b"", None),
-    (b"begin 1\n", b"commit\n", 1, b"read /\n", None),
+    // A 129th step is answered, and not done.
+    ("begin 1;", "write / 00;", 128, "write / 01;commit", 131, ""),
+    ("", "begin 1;abandon;", 499, "begin 1;abandon", 1000, ""),
+    (
+        "",
+        "begin 1;abandon;",
+        500,
+        "begin 1",
+        0,
+        "script 1 line 1001: lines;",
+    ),
+    (
+        "begin 1;write / ",
+        "6g",
+        1,
+        ";commit",
+        0,
+        "script 1 line 2: data;",
+    ),
+    (
+        "begin 1;write / ",
+        "686",
+        1,
+        ";commit",
+        0,
+        "script 1 line 2: data;",
+    ),
+    ("begin 1;", "read  /;", 1, "commit", 3, ""),
+    (
+        "begin 1;",
+        "list /0;",
+        1,
+        "read /16",
+        0,
+        "script 1 line 3: path;",
+    ),
+    (
+        "begin 1;commit;",
+        "create;",
+        1,
+        "",
+        0,
+        "script 1 line 3: unbuilt;",
+    ),
+    ("begin 4033", "", 0, "", 0, "script 1 line 1: number;"),
 ];
 
 /// The first part, the second so many times, and the third.
 fn text_of(
     alloc: Global,
-    head: &[u8],
-    part: &[u8],
+    head: &str,
+    part: &str,
     times: usize,
-    tail: &[u8],
-) -> Result<Vec<u8>, AllocError> {
-    let mut text = Vec::from_slice(alloc, head)?;
+    tail: &str,
+) -> Result<String, AllocError> {
+    let mut text = String::from_str(alloc, head)?;
     for _ in 0..times {
-        text.extend_from_slice(part)?;
+        text.push_str(part)?;
     }
-    text.extend_from_slice(tail)?;
+    text.push_str(tail)?;
     Ok(text)
 }
 
@@ -62,43 +95,54 @@ fn answers_in(printed: &[u8]) -> usize {
         .count()
 }
 
-/// How a text is played: how many steps were answered between its first line and its last one, or that it is no script.
-fn steps_played(rt: &impl Abort, alloc: Global, text: &[u8]) -> Result<Option<usize>, Fail> {
-    let call: Call = (PLAY.0, &[text], &[], &[]);
-    let (ended, out) = called(alloc, call, made(alloc, SERVED)?)?;
-    if ended.status.code() == 2 {
-        assert_eq!(rt; out.bytes(), b"script 1 unbuilt\n".as_slice());
-        return Ok(None);
+/// How many of these lines end so.
+fn lines_ending(printed: &[u8], end: &[u8]) -> usize {
+    printed
+        .split(|byte| *byte == b'\n')
+        .filter(|line| line.ends_with(end))
+        .count()
+}
+
+/// Plays a script of a text, and looks at how many lines were answered, or at what is printed where it is none. A script
+/// that is refused is refused before any call of the halves.
+fn try_text(rt: &(impl Abort + AllocGlobal), row: usize, text: &Text) -> Result<(), Fail> {
+    let (head, part, times, tail, lines, refused) = *text;
+    let script = text_of(rt.alloc(), head, part, times, tail)?;
+    let scripts = text_of(rt.alloc(), &script, "|", 1, "")?;
+    let drives = made(rt.alloc(), SERVED)?;
+    let before = drives.now();
+    let (ended, out) = called(rt.alloc(), ("play", &scripts, 0, 0), drives)?;
+    if refused.is_empty() {
+        assert_eq!(rt; ended.status.code(), 0, "row {row}");
+        assert_eq!(rt; answers_in(out.bytes()), lines, "row {row}");
+        return Ok(());
     }
-    assert_eq!(rt; ended.status.code(), 0);
-    Ok(answers_in(out.bytes()).checked_sub(2))
+    assert_eq!(rt; ended.drives.now(), before, "row {row}");
+    expect(rt, row, (ended.status.code(), &out), (2, refused))?;
+    Ok(())
 }
 
 #[test]
-fn a_script_has_a_shape(rt: HostRuntime) -> Result<(), Fail> {
-    for (row, (head, part, times, tail, steps)) in TEXTS.iter().enumerate() {
-        let text = text_of(rt.alloc(), *head, *part, *times, *tail)?;
-        assert_eq!(rt; steps_played(&rt, rt.alloc(), &text)?, *steps, "row {row}");
+fn scripts_are_played_or_refused(rt: HostRuntime) -> Result<(), Fail> {
+    for (row, text) in TEXTS.iter().enumerate() {
+        try_text(&rt, row, text)?;
     }
     Ok(())
 }
 
 #[test]
-fn the_largest_text_and_one_byte_more(rt: HostRuntime) -> Result<(), Fail> {
+fn a_129th_step_is_answered_and_not_done(rt: HostRuntime) -> Result<(), Fail> {
     let alloc = rt.alloc();
-    let line = text_of(alloc, b"write / ", b"61", 264, b"\n")?;
-    let text = text_of(alloc, b"begin 1\n", &line, 122, b"read /\ncommit\n")?;
-    assert_eq!(rt; text.len(), 65536);
-    assert_eq!(rt; steps_played(&rt, alloc, &text)?, Some(123));
-    let line = text_of(alloc, b"write / ", b"61", 602, b"\n")?;
-    let text = text_of(
-        alloc,
-        b"begin 1\n",
-        &line,
-        54,
-        b"write / -\nwrite / -\ncommit\n",
+    let steps = text_of(alloc, "begin 1;", "write / 00;", 128, "write / 01;commit|")?;
+    let (ended, out) = called(alloc, ("play", &steps, 0, 0), made(alloc, SERVED)?)?;
+    assert_eq!(rt; ended.status.code(), 0);
+    assert_eq!(rt; lines_ending(out.bytes(), b"1.130 full"), 1);
+    answered(
+        &rt,
+        0,
+        SHOW,
+        ended.drives,
+        (0, "file 1: 1 2;/ 00;file 2: 1;/ -;"),
     )?;
-    assert_eq!(rt; text.len(), 65537);
-    assert_eq!(rt; steps_played(&rt, alloc, &text)?, None);
     Ok(())
 }

@@ -1,211 +1,102 @@
 // Stores that were changed by hand, and what is asked of them.
 use super::*;
 
-/// A second version of file 1, in block 3: its head, its fields from the length of the data on, and the data of `/`.
-const SECOND: Patch = (3072, &[0xa5, 0x56, 0, 7]);
+/// A second version of file 1, in block 3, has the data `6869`, and the version before it names it.
+const LINKED: &str =
+    "1.82:00000003 3.0:a5560007 3.68:00020000000100000000000000020000000000000001 3.219:6869";
 
-const SECOND_FIELDS: Patch = (
-    3072 + 68,
-    &[
-        0, 2, 0, 0, 0, 1, 0, 0, 0, 0, 0, 0, 0, 2, 0, 0, 0, 0, 0, 0, 0, 1,
-    ],
-);
-
-const SECOND_DATA: Patch = (3072 + 219, &[0x68, 0x69]);
-
-/// The version before it names it.
-const LINKED: [Patch; 4] = [
-    (1024 + 82, &[0, 0, 0, 3]),
-    SECOND,
-    SECOND_FIELDS,
-    SECOND_DATA,
-];
-
-/// A second version of file 2, in block 4, names it as its member; the link to it is outstanding.
-const OUTSTANDING: [Patch; 6] = [
-    SECOND,
-    SECOND_FIELDS,
-    SECOND_DATA,
-    (2048 + 82, &[0, 0, 0, 4]),
-    (4096, &[0xa5, 0x56, 0, 7]),
-    (
-        4096 + 68,
-        &[
-            0, 0, 0, 0, 0, 2, 0, 0, 0, 0, 0, 0, 0, 2, 0, 0, 0, 0, 0, 0, 0, 2, 1, 0, 0, 0, 1, 0, 0,
-            0, 3,
-        ],
-    ),
-];
+/// A second version of file 2, in block 4, names that version as its member; the link to it is outstanding.
+const OUTSTANDING: &str =
+    "3.0:a5560007 3.68:00020000000100000000000000020000000000000001 3.219:6869 2.82:00000004 \
+    4.0:a5560007 4.68:00000000000200000000000000020000000000000002010000000100000003";
 
 /// File 2 is not live, and versions 3 to 5 of file 3 are kept, in blocks 3 to 5. The last one has data.
-const KEPT: [Patch; 7] = [
-    (32, &[0, 0, 0, 0, 0, 0, 0, 1, 0, 0, 0, 0, 0, 0, 0, 0]),
-    (3072 + 74, &[0, 0, 0, 0, 0, 0, 0, 3, 0, 0, 0, 4]),
-    (4096, &[0xa5, 0x56, 0, 7]),
-    (
-        4096 + 70,
-        &[0, 0, 0, 3, 0, 0, 0, 0, 0, 0, 0, 4, 0, 0, 0, 5, 0, 0, 0, 3],
-    ),
-    (5120, &[0xa5, 0x56, 0, 7]),
-    (
-        5120 + 68,
-        &[
-            0, 2, 0, 0, 0, 3, 0, 0, 0, 0, 0, 0, 0, 5, 0, 0, 0, 0, 0, 0, 0, 4,
-        ],
-    ),
-    (5120 + 219, &[0x68, 0x69]),
-];
+const KEPT: &str =
+    "0.32:00000000000000010000000000000000 3.74:000000000000000300000004 4.0:a5560007 \
+    4.70:0000000300000000000000040000000500000003 5.0:a5560007 \
+    5.68:00020000000300000000000000050000000000000004 5.219:6869";
 
-const CHECK_REFUSED: Call = (&["check"], &[], &[], &[1]);
+/// File 1 begins with the greatest serial.
+const WORN: &str = "1.74:ffffffffffffffff";
 
-/// Stores with the same bytes over both halves: their counts, what they hold, and what is refused of them.
-const STORES: [Case; 15] = [
+const CHECK_REFUSED: Call = ("check", "", 0, 1);
+
+const SHOW_REFUSED: Call = ("show", "", 0, 2);
+
+/// What makes a store, and what is put over both halves then; a call, how it ends and what it prints.
+type Store = (&'static str, &'static str, Call<'static>, u8, &'static str);
+
+/// Stores by their counts, what they hold, and what is refused of them.
+const STORES: [Store; 15] = [
+    (SERVED, "", CHECK, 0, "files 2 versions 2 blocks 2 free 61;"),
     (
-        SERVED,
-        &[],
-        &[],
-        &[],
+        "format 7 61 64",
+        "",
         CHECK,
         0,
-        b"files 2 versions 2 blocks 2 free 61\n",
+        "files 61 versions 61 blocks 61 free 1;",
     ),
-    (
-        &["format", "7", "61", "64"],
-        &[],
-        &[],
-        &[],
-        CHECK,
-        0,
-        b"files 61 versions 61 blocks 61 free 1\n",
-    ),
-    (
-        SERVED,
-        &[(0, &[0])],
-        &[(0, &[0])],
-        &[],
-        CHECK,
-        4,
-        b"bad store: block 0 closed\n",
-    ),
+    (SERVED, "0.0:00", CHECK, 4, "bad store: block 0 closed;"),
+    (SERVED, "0.1:a5", CHECK, 4, "bad store: block 0 kind;"),
+    (SERVED, "1.4:d0", CHECK, 4, "bad store: block 1 code;"),
+    (SERVED, "1.4:00000001", CHECK, 4, "bad store: block 1 seen;"),
+    (SERVED, "", CHECK_REFUSED, 5, ""),
+    (BLANK, "", CHECK_REFUSED, 4, ""),
+    (SERVED, "", SHOW, 0, "file 1: 1;/ -;file 2: 1;/ -;"),
+    (SERVED, LINKED, SHOW, 0, "file 1: 1 2;/ 6869;file 2: 1;/ -;"),
     (
         SERVED,
-        &[(1, &[0xa5])],
-        &[(1, &[0xa5])],
-        &[],
-        CHECK,
-        4,
-        b"bad store: block 0 kind\n",
-    ),
-    (
-        SERVED,
-        &[(1028, &[0xd0])],
-        &[(1028, &[0xd0])],
-        &[],
-        CHECK,
-        4,
-        b"bad store: block 1 code\n",
-    ),
-    (
-        SERVED,
-        &[(1028, &[0, 0, 0, 1])],
-        &[(1028, &[0, 0, 0, 1])],
-        &[],
-        CHECK,
-        4,
-        b"bad store: block 1 seen\n",
-    ),
-    (SERVED, &[], &[], &[], CHECK_REFUSED, 5, b""),
-    (BLANK, &[], &[], &[], CHECK_REFUSED, 4, b""),
-    (
-        SERVED,
-        &[],
-        &[],
-        &[],
+        OUTSTANDING,
         SHOW,
         0,
-        b"file 1: 1\n/ -\nfile 2: 1\n/ -\n",
+        "file 1: 1 2;/ 6869;file 2: 1 2;/ -;",
     ),
     (
-        SERVED,
-        &LINKED,
-        &LINKED,
-        &[],
+        "format 7 3 64",
+        KEPT,
         SHOW,
         0,
-        b"file 1: 1 2\n/ 6869\nfile 2: 1\n/ -\n",
+        "file 1: 1;/ -;file 3: 3 4 5;/ 6869;",
     ),
     (
         SERVED,
-        &OUTSTANDING,
-        &OUTSTANDING,
-        &[],
+        WORN,
         SHOW,
         0,
-        b"file 1: 1 2\n/ 6869\nfile 2: 1 2\n/ -\n",
+        "file 1: 18446744073709551615;/ -;file 2: 1;/ -;",
     ),
-    (
-        &["format", "7", "3", "64"],
-        &KEPT,
-        &KEPT,
-        &[],
-        SHOW,
-        0,
-        b"file 1: 1\n/ -\nfile 3: 3 4 5\n/ 6869\n",
-    ),
-    (
-        SERVED,
-        &[(1024 + 74, &[0xff; 8])],
-        &[(1024 + 74, &[0xff; 8])],
-        &[],
-        SHOW,
-        0,
-        b"file 1: 18446744073709551615\n/ -\nfile 2: 1\n/ -\n",
-    ),
-    (
-        SERVED,
-        &[(0, &[0])],
-        &[(0, &[0])],
-        &[],
-        SHOW,
-        4,
-        b"bad store: block 0 closed\n",
-    ),
-    (
-        SERVED,
-        &[],
-        &[],
-        &[],
-        (&["show"], &[], &[], &[2]),
-        5,
-        b"file 1: 1\n",
-    ),
+    (SERVED, "0.0:00", SHOW, 4, "bad store: block 0 closed;"),
+    (SERVED, "", SHOW_REFUSED, 5, "file 1: 1;"),
 ];
 
 #[test]
 fn stores_are_shown_counted_or_refused(rt: HostRuntime) -> Result<(), Fail> {
-    try_all(&rt, rt.alloc(), &STORES)
+    for (row, (words, over, call, code, text)) in STORES.iter().enumerate() {
+        let case = (*words, *over, *over, "", *call, *code, *text);
+        try_case(&rt, row, &case)?;
+    }
+    Ok(())
 }
 
-/// Objects and rights, and the capability that the store of two files gives, if any.
-const CAPS: [(&str, &str, &[u8]); 8] = [
-    ("1", "1", b"cap 616d6f6562610000010115d8e398af1b\n"),
-    ("2", "255", b"cap 616d6f656261000002ff9068a1d7a056\n"),
-    ("3", "255", b"denied object\n"),
-    ("60", "255", b"denied object\n"),
-    ("61", "255", b"denied object\n"),
-    ("4032", "255", b"denied object\n"),
-    ("0", "255", b"usage\n"),
-    ("4033", "255", b"usage\n"),
+/// What is asked of the store of two files, and the capability that it gives, if any.
+const CAPS: [(&str, &str); 8] = [
+    ("cap 1 1", "cap 616d6f6562610000010115d8e398af1b;"),
+    ("cap 2 255", "cap 616d6f656261000002ff9068a1d7a056;"),
+    ("cap 3 255", "denied object;"),
+    ("cap 60 255", "denied object;"),
+    ("cap 61 255", "denied object;"),
+    ("cap 4032 255", "denied object;"),
+    ("cap 0 255", "usage;"),
+    ("cap 4033 255", "usage;"),
 ];
 
 #[test]
 fn a_capability_is_given_of_a_live_object_alone(rt: HostRuntime) -> Result<(), Fail> {
     let alloc = rt.alloc();
-    for (row, (object, rights, text)) in CAPS.iter().enumerate() {
-        let words = ["cap", *object, *rights];
-        let (ended, out) = called(alloc, (&words, &[], &[], &[]), made(alloc, SERVED)?)?;
-        let code = u8::from(text.starts_with(b"usage"));
-        expect(&rt, row, (ended.status.code(), &out), (code, *text));
+    for (row, (words, text)) in CAPS.iter().enumerate() {
+        let (ended, out) = called(alloc, (*words, "", 0, 0), made(alloc, SERVED)?)?;
+        let code = u8::from(text.starts_with("usage"));
+        expect(&rt, row, (ended.status.code(), &out), (code, *text))?;
     }
     Ok(())
 }
