@@ -231,5 +231,5 @@ fn plays_of_long_updates_agree(rt: HostRuntime) -> Result<(), Fail> {
         depth: 2,
         ends: 300,
     };
-    try_mix(&rt, &mix, 1, "nospace unchanged")
+    try_mix(&rt, &mix, 1, "nospace unchanged merged conflict slot")
 }
