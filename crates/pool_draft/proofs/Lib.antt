@@ -14,3 +14,4 @@ pub mod Rows
 pub mod Searching
 pub mod Touching
 pub mod Written
+pub mod Others

@@ -107,6 +107,13 @@ impl PoolSet {
         self.bases.len()
     }
 
+    /// The number of the root that is picked.
+    pub fn picked(&self) -> u8
+        ensures { result ≡ picked_of self.now }
+    {
+        self.pages.picked()
+    }
+
     /// Picks the root of a number, from 0 in the order in which they were added.
     pub fn pick(&mut self, k: u8)
         requires { k < roots_of self.old }
