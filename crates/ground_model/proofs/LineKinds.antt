@@ -3,7 +3,7 @@ use Rattle.std.proofs.Common.{◌≡◌, ◌≢◌, ℕ, map, List, [], ◌∷�
 use Rattle.std.specs.Prelude.{IsSome, if◌then◌else◌, is_none}
 use Rattle.std.specs.Option.{option_and_then}
 use Rattle.script_text.specs.declared.command.Command.{Command}
-use Rattle.script_text.specs.declared.command.Command.TheVariants.{Begin, Do, Abandon}
+use Rattle.script_text.specs.declared.command.Command.TheVariants.{Begin, Do, Abandon, Pick}
 use Rattle.script_text.specs.declared.command.FileName.{FileName}
 use Rattle.script_text.specs.declared.reply.LineRefusal.{LineRefusal}
 use Rattle.script_text.specs.declared.reply.LineRefusal.TheVariants.{Open, Idle}
@@ -19,7 +19,7 @@ use Rattle.service_model.specs.Entries.{after_what, after_entries, bases_of, mod
 use Rattle.service_model.specs.Legal.{IsLawful, IsLegalFrom, IsOpening}
 use Rattle.service_model.specs.Replies.{reply_at, reply_after, asked_reply, plain_reply, step_reply}
 use Rattle.service_model.specs.Standing.{Scripts, Standing, Client, Update, Upkeep, client_of, next_line}
-use Rattle.ground_model.specs.Lines.{in_line, Becomes, Notes, IsAt, answering, RefusedIsNoted, BeginIsNoted, StepIsNoted, AbandonIsNoted}
+use Rattle.ground_model.specs.Lines.{in_line, Becomes, Notes, IsAt, answering, RefusedIsNoted, BeginIsNoted, StepIsNoted, PickIsNoted, AbandonIsNoted}
 use Rattle.ground_model.specs.Own.{IsClient}
 use Rattle.ground_model.proofs.Lines.{became, still_client, becomes_then, noted_lawful, noted_after, same_next, answer_notes, began_becomes, given_up_becomes}
 
@@ -47,6 +47,13 @@ step_is_noted scripts s k line at step is none u open_is answer told =
     (answer_notes scripts s k line at.resting.client at.next at.resting.idle None answer none
     (plain_answer scripts s k line.command None at.resting.fresh none
     ∙ ap (plain_reply s (client_of s k)) is ∙ ap (option_and_then (step_reply step)) open_is ∙ told))
+
+pub pick_is_noted : PickIsNoted
+pick_is_noted scripts s k line at place is none u open_is =
+    same_update scripts s k (in_line k line Answered ∷ []) reply.Picked (updated line.command (client_of s k).update) (Some (record u { picked = place }))
+    (ap (λ c. updated c (client_of s k).update) is ∙ ap (updated (Pick place)) open_is)
+    (answer_notes scripts s k line at.resting.client at.next at.resting.idle None reply.Picked none
+    (plain_answer scripts s k line.command None at.resting.fresh none ∙ ap (plain_reply s (client_of s k)) is))
 
 -- ---- two entries
 

@@ -8,8 +8,8 @@ use Rattle.service_model.proofs.Members.{at_place}
 use Rattle.store_changes.specs.Stands.{IsPlace}
 use Rattle.store_changes.specs.Writes.{Content}
 use Rattle.store_changes.proofs.InPlaces.{pages_are_places}
-use Rattle.store_model.specs.Changes.{AreLinked, IsLinked, IsTop, LiesIn, Rewrites, changed_at, cleared, committed, file_with, store_with, without_members}
-use Rattle.store_model.specs.Found.{LaidStore, laid}
+use Rattle.store_model.specs.Changes.{AreLinked, IsLinked, IsTop, LiesIn, Rewrites, changed_at, cleared, file_with, store_with, without_members}
+use Rattle.store_model.specs.Found.{LaidStore}
 use Rattle.store_model.specs.Laid.{LaidFile, LaidVersion, last_laid}
 use Rattle.store_model.specs.Links.{IsLastOfItsFile}
 use Rattle.store_model.specs.Members.{names_none}

@@ -9,8 +9,8 @@ use Rattle.service_model.proofs.Members.{at_place, from_place}
 use Rattle.store_changes.specs.Stands.{IsPlace}
 use Rattle.store_changes.specs.Writes.{Content}
 use Rattle.store_changes.proofs.InPlaces.{pages_are_places}
-use Rattle.store_model.specs.Changes.{IsLinked, IsTop, LiesIn, Outstanding, Rewrites, changed_at, cleared, committed, file_with, store_with, with_commit}
-use Rattle.store_model.specs.Found.{LaidStore, laid}
+use Rattle.store_model.specs.Changes.{IsLinked, IsTop, LiesIn, Outstanding, Rewrites, changed_at, committed, file_with, store_with, with_commit}
+use Rattle.store_model.specs.Found.{LaidStore}
 use Rattle.store_model.specs.Laid.{LaidFile, LaidVersion, last_laid}
 use Rattle.store_model.specs.Members.{names_none}
 use Rattle.store_model.proofs.Edits.{changed_length, changed_other, changed_same, none_some, some_is, within}

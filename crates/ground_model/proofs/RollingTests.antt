@@ -1,5 +1,5 @@
 -- What a test-and-set of a link that is left came to.
-use Rattle.std.proofs.Common.{◌≡◌, inl, inr, ℕ, ◌-◌, ◌<◌, ◌≤◌, ◌^◌, List, Option, Some, Result, Ok, Err, sym, ap, ◌∙◌, subst, arith}
+use Rattle.std.proofs.Common.{◌≡◌, inl, inr, ℕ, ◌<◌, ◌≤◌, ◌^◌, List, Option, Some, Result, Ok, Err, sym, ap, ◌∙◌, subst, arith}
 use Rattle.std.proofs.lemmas.Bool.{cases_eq}
 use Rattle.std.specs.Option.{option_and_then}
 use Rattle.drives.specs.declared.device.Half.{Half}

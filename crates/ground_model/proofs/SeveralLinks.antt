@@ -1,5 +1,5 @@
 -- The links after a commit of several files: those of the members are outstanding, and their client sets them.
-use Rattle.std.proofs.Common.{◌≡◌, ◌≢◌, ◌⊎◌, inl, inr, ℕ, zero, suc, ◌-◌, ◌≤◌, ◌==◌, true, false, length, List, [], ◌∷◌, Some, Contains, refl, sym, ap, ◌∙◌, subst, arith, slice_get, true≢false}
+use Rattle.std.proofs.Common.{◌≡◌, ◌⊎◌, inl, inr, ℕ, zero, suc, ◌-◌, ◌≤◌, ◌==◌, true, length, List, [], ◌∷◌, Some, Contains, refl, sym, ap, ◌∙◌, subst, arith, slice_get, true≢false}
 use Rattle.page_codec.specs.Values.{MemberValue}
 use Rattle.std.specs.List.{list_any}
 use Rattle.service_model.specs.Sound.{is_committing}

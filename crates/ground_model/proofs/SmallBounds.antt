@@ -1,10 +1,12 @@
 -- The bound of a line is a small number: an update has few steps, so it accesses few pages, and few are fresh.
-use Rattle.std.proofs.Common.{◌≡◌, ◌⊎◌, inl, inr, ℕ, suc, ◌+◌, ◌*◌, ◌^◌, ◌≤◌, ◌==◌, nat_lt, Bool, true, false, not, ◌&&◌, cond, T, nat_eq, List, [], ◌∷◌, ◌++◌, map, filter, length, Option, Some, None, All, refl, sym, ap, ◌∙◌, subst, arith, length-append, sum_by, eqb-true, mul-suc}
-use Rattle.std.specs.List.{Contains}
+use Rattle.std.proofs.Common.{◌≡◌, ◌⊎◌, inl, inr, ℕ, suc, ◌+◌, ◌*◌, ◌^◌, ◌≤◌, ◌==◌, nat_lt, Bool, true, false, not, ◌&&◌, cond, T, nat_eq, List, [], ◌∷◌, ◌++◌, map, filter, length, slice_get, zero, Option, Some, None, All, refl, sym, ap, ◌∙◌, arith, length-append, sum_by, eqb-true, mul-suc}
 use Rattle.std.specs.FinMap as finite
 use Rattle.std.specs.FinMap.Entries.{is_sorted, below_all}
 use Rattle.std.specs.Cmp.{first_so, second_so}
 use Rattle.std.specs.List.{list_all, list_any}
+use Rattle.std.specs.Prelude.{Contains, get_or}
+use Rattle.std.proofs.lemmas.Option.{slice_get-get_or}
+use Rattle.block_map.proofs.Marking.{slice_get-lt}
 use Rattle.std.specs.Option.{option_map_or}
 use Rattle.std.specs.Ordering.{is_lt}
 use Rattle.std.proofs.lemmas.List.{length-map}
@@ -305,80 +307,129 @@ written_count [] = omega arith
 written_count (p ∷ ps) = omega arith
 
 -- few pages are fresh
-fresh_few : (t : Tree) (steps : List Step) → All IsTreeStep steps → length steps ≤ 128 → length (fresh_as_top t steps) ≤ 1025
-fresh_few t steps all few =
+fresh_by : (t : Tree) (steps : List Step) → All IsTreeStep steps → length (fresh_as_top t steps) ≤ 1 + 8 * length steps
+fresh_by t steps all =
     let most = no_longer (fresh_of t steps) (ways steps) (keys_rise (finite.retain_keys (tree_after t steps) (touches (all_writes t steps))))
     (λ p h. in_ways t steps p (fresh_touched t steps p h)) in
     let count = ways_count steps all in
     let written = written_count (fresh_of t steps) in
-    omega (arith, most, count, written, few)
+    omega (arith, most, count, written)
 
 -- ---- the bound
 
 abbrev fresh_count : Work → ℕ
 fresh_count w = length (fresh_as_top w.base w.steps)
 
-one_renewed : (w : Work) (b c : Bool) → sum_by fresh_count (cond b (w ∷ []) (cond c (w ∷ []) [])) ≤ fresh_count w
-one_renewed w true c = let one = sum_by-cons fresh_count w [] in omega (arith, one)
-one_renewed w false true = let one = sum_by-cons fresh_count w [] in omega (arith, one)
-one_renewed w false false = omega arith
+-- what is said of each file of an update
+abbrev OfEach : List Work → (Work → Type 0) → Type 0
+OfEach ws P = (i : ℕ) (w : Work) → slice_get ws i ≡ Some w → P w
 
-need_few : (u : Update) (w : Work) → u.works ≡ w ∷ [] → need u ≤ fresh_count w
-need_few u w is =
-    let b : Bool = u.is_super && has_writes u in
-    let same_need : need u ≡ sum_by fresh_count (cond b (w ∷ []) (cond (is_written w) (w ∷ []) [])) =
-    ap (λ (ws : List Work). sum_by fresh_count (cond b (top_and_written ws) (filter is_written ws))) is in
-    let most = one_renewed w b (is_written w) in
-    omega (arith, same_need, most)
+filtered_sum : (f : Work → ℕ) (test : Work → Bool) (ws : List Work) → sum_by f (filter test ws) ≤ sum_by f ws
+filtered_sum f test [] = omega arith
+filtered_sum f test (w ∷ ws) = by (test w) (filtered_sum f test ws)
+  where
+    by : (b : Bool) → sum_by f (filter test ws) ≤ sum_by f ws → sum_by f (cond b (w ∷ filter test ws) (filter test ws)) ≤ sum_by f (w ∷ ws)
+    by true rest =
+        let one = sum_by-cons f w (filter test ws) in
+        let all = sum_by-cons f w ws in
+        omega (arith, rest, one, all)
+    by false rest = let all = sum_by-cons f w ws in omega (arith, rest, all)
 
-sum_most : (f : Made → ℕ) (n : ℕ) (ms : List Made) → ((m : Made) → f m ≤ n) → sum_by f ms ≤ n * length ms
+renewed_sum : (f : Work → ℕ) (b : Bool) (ws : List Work) → sum_by f (cond b (top_and_written ws) (filter is_written ws)) ≤ sum_by f ws
+renewed_sum f true [] = omega arith
+renewed_sum f true (w ∷ ws) =
+    let rest = filtered_sum f is_written ws in
+    let one = sum_by-cons f w (filter is_written ws) in
+    let all = sum_by-cons f w ws in
+    omega (arith, rest, one, all)
+renewed_sum f false ws = filtered_sum f is_written ws
+
+fresh_sum : (ws : List Work) → OfEach ws (λ w. All IsTreeStep w.steps) → sum_by fresh_count ws ≤ length ws + 8 * sum_by (λ (w : Work). length w.steps) ws
+fresh_sum [] all = omega arith
+fresh_sum (w ∷ ws) all =
+    let here = fresh_by w.base w.steps (all 0 w refl) in
+    let rest = fresh_sum ws (λ i x is. all (suc i) x is) in
+    let sum = sum_by-cons fresh_count w ws in
+    let steps = sum_by-cons (λ (x : Work). length x.steps) w ws in
+    omega (arith, here, rest, sum, steps)
+
+sum_most : {X : Type 0} (f : X → ℕ) (n : ℕ) (xs : List X) → ((i : ℕ) (x : X) → slice_get xs i ≡ Some x → f x ≤ n) → sum_by f xs ≤ n * length xs
 sum_most f n [] all = omega arith
-sum_most f n (m ∷ ms) all =
-    let here = all m in
-    let rest = sum_most f n ms all in
-    let sum = sum_by-cons f m ms in
-    let product = mul-suc n (length ms) in
+sum_most f n (x ∷ xs) all =
+    let here = all 0 x refl in
+    let rest = sum_most f n xs (λ i y is. all (suc i) y is) in
+    let sum = sum_by-cons f x xs in
+    let product = mul-suc n (length xs) in
     omega (arith, here, rest, sum, product)
 
-module _ (made : List Made) (u : Update) (w : Work) (is : u.works ≡ w ∷ []) (all : All IsTreeStep w.steps) (few : length w.steps ≤ 128) where
-  later_few : later_in made u ≤ length made
-  later_few =
-      let f : Work → ℕ = λ x. length (later_of made x) in
-      let sum : later_in made u ≡ f w + 0 = ap (sum_by f) is ∙ sum_by-cons f w [] in
-      let one = filter_le (λ (m : Made). nat_lt w.serial m.serial) (made_of w.object made) in
-      let two = filter_le (λ (m : Made). m.object == w.object) made in
-      omega (arith, sum, one, two)
+steps_within : (ws : List Work) (i : ℕ) (w : Work) → slice_get ws i ≡ Some w → length w.steps ≤ sum_by (λ (x : Work). length x.steps) ws
+steps_within [] i w is = absurd (let no : None ≡ Some w = is in cc no)
+steps_within (x ∷ ws) zero w is =
+    let same : x ≡ w = cc in
+    let sum = sum_by-cons (λ (y : Work). length y.steps) x ws in
+    let here = ap (λ (y : Work). length y.steps) same in
+    omega (arith, sum, here)
+steps_within (x ∷ ws) (suc i) w is =
+    let rest = steps_within ws i w is in
+    let sum = sum_by-cons (λ (y : Work). length y.steps) x ws in
+    omega (arith, rest, sum)
 
-  all_shared_few : shared_in made u ≤ 5248 * length made
-  all_shared_few =
-      let f : Work → ℕ = λ x. sum_by (shared_of x) (later_of made x) in
-      let sum : shared_in made u ≡ f w + 0 = ap (sum_by f) is ∙ sum_by-cons f w [] in
-      let most = sum_most (shared_of w) 5248 (later_of made w) (λ m. shared_few w m all few) in
+module _ (made : List Made) (u : Update) (seventeen : length u.works ≤ 17) (all : OfEach u.works (λ w. All IsTreeStep w.steps)) (few : step_count u ≤ 128) where
+  need_few : need u ≤ 1041
+  need_few =
+      let most = renewed_sum fresh_count (u.is_super && has_writes u) u.works in
+      let fresh = fresh_sum u.works all in
+      omega (arith, most, fresh, seventeen, few)
+
+  made_few : (w : Work) → length (later_of made w) ≤ length made
+  made_few w =
       let one = filter_le (λ (m : Made). nat_lt w.serial m.serial) (made_of w.object made) in
       let two = filter_le (λ (m : Made). m.object == w.object) made in
-      omega (arith, sum, most, one, two)
+      omega (arith, one, two)
+
+  later_few : later_in made u ≤ length made * 17
+  later_few =
+      let sum = sum_most (λ (w : Work). length (later_of made w)) (length made) u.works (λ i w is. made_few w) in
+      let product = mul-le (length made) (length u.works) (length made) 17 (omega arith) seventeen in
+      omega (arith, sum, product)
+
+  shared_here : (i : ℕ) (w : Work) → slice_get u.works i ≡ Some w → sum_by (shared_of w) (later_of made w) ≤ 5248 * length made
+  shared_here i w is =
+      let steps = steps_within u.works i w is in
+      let most = sum_most (shared_of w) 5248 (later_of made w) (λ j m there. shared_few w m (all i w is) (omega (arith, steps, few))) in
+      let count = made_few w in
+      omega (arith, most, count)
+
+  all_shared_few : shared_in made u ≤ 5248 * length made * 17
+  all_shared_few =
+      let sum = sum_most (λ (w : Work). sum_by (shared_of w) (later_of made w)) (5248 * length made) u.works shared_here in
+      let product = mul-le (5248 * length made) (length u.works) (5248 * length made) 17 (omega arith) seventeen in
+      omega (arith, sum, product)
 
   bound_few : commit_bound made u ≤ 2 ^ 18 * (1 + length made)
   bound_few =
-      let fresh = fresh_few w.base w.steps all few in
-      let needed = need_few u w is in
+      let needed = need_few in
       let later = later_few in
       let shared = all_shared_few in
-      let product = mul-le (4 + 2 * need u) (1 + later_in made u) 2054 (1 + length made) (omega (arith, fresh, needed)) (omega (arith, later)) in
+      let product = mul-le (4 + 2 * need u) (1 + later_in made u) 2086 (1 + length made * 17) (omega (arith, needed)) (omega (arith, later)) in
       omega (arith, product, shared)
 
--- of an update that is open, of one file
-open_few : (scripts : Scripts) (s : Standing) (k : ℕ) (u : Update) (w : Work) → IsSound scripts s → 1 ≤ k → IsOpenAt s k u → u.works ≡ w ∷ []
+-- what lies at a place is on the list
+slice_contains : (ws : List Work) (i : ℕ) (w : Work) → slice_get ws i ≡ Some w → Contains ws w
+slice_contains ws i w is =
+    let low = slice_get-lt ws i w is in
+    let both : Some (get_or ws i w) ≡ Some w = sym (slice_get-get_or ws i w low) ∙ is in
+    (i, low, cc)
+
+-- of an update that is open
+open_few : (scripts : Scripts) (s : Standing) (k : ℕ) (u : Update) → IsSound scripts s → 1 ≤ k → IsOpenAt s k u → length u.works ≤ 17
     → commit_bound s.made u ≤ 2 ^ 18 * (1 + length s.made)
-open_few scripts s k u w sound low at is =
+open_few scripts s k u sound low at seventeen =
     let mine = sound.updates k u low at in
-    let all : All IsTreeStep w.steps = (mine.based w (subst (λ (ws : List Work). Contains ws w) (sym is) (0, omega arith, refl))).steps in
-    let count : step_count u ≡ length w.steps + 0 = ap (sum_by (λ (x : Work). length x.steps)) is ∙ sum_by-cons (λ (x : Work). length x.steps) w [] in
-    let most = mine.few in
-    bound_few s.made u w is all (omega (arith, count, most))
+    bound_few s.made u seventeen (λ i w is. (mine.based w (slice_contains u.works i w is)).steps) mine.few
 
 pub bounds_are_small : BoundsAreSmall
-bounds_are_small scripts s k sound low one = by (next_line scripts s k)
+bounds_are_small scripts s k sound low small = by (next_line scripts s k)
   where
     most : ℕ
     most = 2 ^ 18 * (1 + length s.made)
@@ -388,7 +439,7 @@ bounds_are_small scripts s k sound low one = by (next_line scripts s k)
 
     of_update : (o : Option Update) → (client_of s k).update ≡ o → option_map_or (commit_bound s.made) o 0 ≤ most
     of_update None is = omega arith
-    of_update (Some u) is = let w = one u is in open_few scripts s k u w.0 sound low is w.1
+    of_update (Some u) is = open_few scripts s k u sound low is (small u is)
 
     of_command : (c : Command) → command_bound s k c ≤ most
     of_command (Begin file) = seven

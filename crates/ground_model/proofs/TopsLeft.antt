@@ -1,5 +1,5 @@
 -- Which versions name members after a commit of one file: those that did before.
-use Rattle.std.proofs.Common.{◌≡◌, ◌≢◌, ◌⊎◌, inl, inr, ℕ, ◌-◌, true, Some, refl, sym, ap, ◌∙◌, slice_get, true≢false}
+use Rattle.std.proofs.Common.{◌≡◌, ◌≢◌, ◌⊎◌, inl, inr, ℕ, true, Some, refl, sym, ap, ◌∙◌, slice_get, true≢false}
 use Rattle.std.proofs.lemmas.Bool.{cases_eq}
 use Rattle.store_model.specs.Changes.{IsTop, changed_at, file_committed}
 use Rattle.store_model.specs.Found.{LaidStore}

@@ -121,9 +121,9 @@ FewAreMade =
     (opening : State) (scripts : Scripts) (es : List Entry) → NameFew scripts
     → length (standing_after opening scripts es).made ≤ 17 * length es
 
--- The bound of the next line of a client whose update, if one is open, is of one file.
+-- The bound of the next line of a client whose update, if one is open, has at most seventeen files.
 abbrev pub BoundsAreSmall : Type 0
 BoundsAreSmall =
     (scripts : Scripts) (s : Standing) (k : ℕ) → IsSound scripts s → 1 ≤ k
-    → ((u : Update) → IsOpenAt s k u → (w : Work) × (u.works ≡ w ∷ []))
+    → ((u : Update) → IsOpenAt s k u → length u.works ≤ 17)
     → line_bound scripts s k ≤ 2 ^ 18 * (1 + length s.made)

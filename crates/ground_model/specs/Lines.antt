@@ -1,6 +1,6 @@
 -- The entries of a client's line, and what stands after them.
 use Rattle.std.specs.Prelude.{◌≡◌, ℕ, ◌-◌, List, [], ◌∷◌, ◌++◌, map, Option, Some, None, slice_set}
-use Rattle.script_text.specs.declared.command.Command.TheVariants.{Begin, Do, Abandon}
+use Rattle.script_text.specs.declared.command.Command.TheVariants.{Begin, Do, Abandon, Pick}
 use Rattle.script_text.specs.declared.command.FileName.{FileName}
 use Rattle.script_text.specs.declared.reply.LineRefusal.{LineRefusal}
 use Rattle.script_text.specs.declared.reply.LineReply.{LineReply}
@@ -76,6 +76,15 @@ StepIsNoted =
     → (answer : LineReply) → step_reply step u ≡ Some answer
     → Notes scripts s k (in_line k line Answered ∷ [])
     (answering (client_of s k) answer (Some (with_step step u)))
+
+-- A file of an open update is picked: the next steps go to it.
+abbrev pub PickIsNoted : Type 0
+PickIsNoted =
+    (scripts : Scripts) (s : Standing) (k : ℕ) (line : Line) → IsAt scripts s k line
+    → (place : ℕ) → line.command ≡ Pick place → cause_of s k line.command ≡ None
+    → (u : Update) → (client_of s k).update ≡ Some u
+    → Notes scripts s k (in_line k line Answered ∷ [])
+    (answering (client_of s k) reply.Picked (Some (record u { picked = place })))
 
 -- An update that is given up is over.
 abbrev pub AbandonIsNoted : Type 0

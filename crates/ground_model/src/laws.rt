@@ -9,7 +9,7 @@ ghost use Rattle.ground_model.specs.Heads.{HeadsTell, NoHeadTells};
 ghost use Rattle.ground_model.specs.Laws.{HeldWriteLeads, LineStepLeads, LinkLeads};
 ghost use Rattle.ground_model.specs.Laws.{LeavesGoOn, LeftIsKept};
 ghost use Rattle.ground_model.specs.Lines.{AbandonIsNoted, BeginIsNoted, RefusedIsNoted};
-ghost use Rattle.ground_model.specs.Lines.{StepIsNoted};
+ghost use Rattle.ground_model.specs.Lines.{PickIsNoted, StepIsNoted};
 ghost use Rattle.ground_model.specs.Maps.{EndIsNoted, GivingIsFixed, TakingIsFixed};
 ghost use Rattle.ground_model.specs.Opened.{OpenedBegins};
 ghost use Rattle.ground_model.specs.Quiet.{QuietTurnStands};
@@ -115,6 +115,7 @@ pub fn lines_are_noted()
     ensures refused { RefusedIsNoted }
     ensures begin { BeginIsNoted }
     ensures step { StepIsNoted }
+    ensures pick { PickIsNoted }
     ensures abandon { AbandonIsNoted }
 {}
 
