@@ -22,13 +22,12 @@ use Rattle.ground_model.specs.Runs.{IsRead}
 use Rattle.ground_model.specs.Scenes.{Scene}
 use Rattle.ground_model.specs.Steps.{moved_to}
 use Rattle.ground_model.proofs.Lines.{became}
-use Rattle.ground_model.proofs.LineTurns.{plain_sets_none}
 use Rattle.session.specs.Answers.{ending, gives_up}
 use Rattle.session.specs.Calls.{AnswersLine, CountsTurn, IsCounted, IsReady, Own, TurnCall, Turns}
 use Rattle.session.specs.Ends.{AreOf, GoesTo, TurnGoes}
 use Rattle.session.specs.Own.{IsAtRest, OwnsStage, OwnsUpdate}
 use Rattle.session.specs.Safe.{AreSafeDrafts, IsSafe, IsSafeStage, IsSafeStore, drafts_of, entries_left, line_of, noted_for}
-use Rattle.session.specs.Shared.{RunStands, entries_of, room_of}
+use Rattle.session.specs.Shared.{AreLocksIn, RunStands, entries_of, room_of}
 use Rattle.session.specs.Values.{RepliesValue}
 use Rattle.session.specs.declared.common.Common.{Common}
 use Rattle.session.specs.declared.course.Course.{Course}
@@ -38,7 +37,7 @@ use Rattle.session.specs.declared.turned.Fault.TheVariants as fault
 use Rattle.session.specs.declared.turned.Turned.{Turned}
 use Rattle.session.specs.declared.turned.Turned.TheVariants as turned
 use Rattle.session.proofs.Counting.{rest_kept}
-use Rattle.session.proofs.Ending.{HasPlain, ended, left_answers, left_held, left_noted, left_plain, left_with, plain_locks_none, rest_is_plain}
+use Rattle.session.proofs.Ending.{ended, left_answers, left_held, left_noted, left_with, rest_sets_none}
 use Rattle.session.proofs.Going.{SharesOn, goes_quiet, quiet_is_line, seated_on, turn_goes}
 
 -- ---- numbers
@@ -122,12 +121,11 @@ module _ {D : Type 0} (b : Ghosts D) (script : ScriptValue) (reply : LineReply) 
 
 -- ---- the scene after it
 
--- A client as it answered its line: it has this answer more, nothing noted, no block, and an update of one file, if any.
+-- A client as it answered its line: it has this answer more, nothing noted, and no block.
 pub record IsAnswering (s : Course) (reply : LineReply) (cl : Client) : Type 0 where
   pub answers : cl.answers ≡ s.replies.items ++ reply ∷ []
   pub noted : cl.noted ≡ []
   pub held : cl.held ≡ 0
-  pub plain : HasPlain cl
 
 -- The course after it: as many answers, no block, at rest, with no turn; and no draft behind the last line.
 pub record IsAfter (script : ScriptValue) (reply : LineReply) (s s' : Course) : Type 0 where
@@ -164,7 +162,7 @@ module _ {D : Type 0} (b : Ghosts D) (law : LineTurnStands b) (opening : State) 
       client = rest.seated.client;
       notes = all_notes;
       held = left_held cl given answering.held ∙ sym rest.held;
-      links = plain_sets_none scene.standing s.client (rest_is_plain scripts scene script s rest);
+      links = rest_sets_none scripts scene script s rest;
       read = read;
       moments = moments;
     }
@@ -190,16 +188,13 @@ module _ {D : Type 0} (b : Ghosts D) (law : LineTurnStands b) (opening : State) 
         turns = (let none = after.turns in omega (arith, none));
       }
 
-      goes : SharesOn c c' all_noted c.map → AreOf scripts scene.standing s.client all_noted
+      goes : SharesOn c c' all_noted c.map → AreLocksIn (after_entries scripts scene.standing all_noted) c'.locks → AreOf scripts scene.standing s.client all_noted
           → GoesTo b opening scripts first scene answered_scene c c' s.client all_noted
-      goes shares of_client =
-          goes_quiet b law opening scripts first s.client scene c c' all_noted last st turn shares
-          (λ object. plain_locks_none last (left_plain cl given answering.plain) object
-          ∙ sym (plain_locks_none (client_of scene.standing s.client) (rest_is_plain scripts scene script s rest) object))
-          of_client
+      goes shares locks of_client = goes_quiet b law opening scripts first s.client scene c c' all_noted last st turn shares locks of_client
 
       -- the turn goes where each of its entries is due
-      pub answered_goes : SharesOn c c' all_noted c.map → AreOf scripts scene.standing s.client all_noted → TurnGoes b opening scripts first scene c c' script s'
-      answered_goes shares of_client =
-          turn_goes b opening scripts first scene answered_scene c c' script s' s.client all_noted after.client (goes shares of_client) moments
+      pub answered_goes : SharesOn c c' all_noted c.map → AreLocksIn (after_entries scripts scene.standing all_noted) c'.locks → AreOf scripts scene.standing s.client all_noted
+          → TurnGoes b opening scripts first scene c c' script s'
+      answered_goes shares locks of_client =
+          turn_goes b opening scripts first scene answered_scene c c' script s' s.client all_noted after.client (goes shares locks of_client) moments
           (subst (OwnsStage scripts answered_scene script s') (sym after.stage) rests)

@@ -158,7 +158,7 @@ idle_cause b script c s at none opening scripts first scene is line next =
   where
     closed : (o : Option Update) → OwnsUpdate scene script s o → o ≡ None
     closed None own = refl
-    closed (Some u) own = absurd (let one = own.plain.drafts in omega (arith, one, none))
+    closed (Some u) own = absurd (let some = own.within in omega (arith, some, none))
 
 -- no page is fed for a line that commits
 fed_none : (script : ScriptValue) (s : Course) → IsAtCommand script s Commit → HasFed script s → s.drafts.fed ≡ 0

@@ -10,15 +10,16 @@ use Rattle.pool_draft.specs.Sets.{base_at, picked_of, roots_of, view_at}
 use Rattle.script_text.specs.ScriptValue.{ScriptValue}
 use Rattle.session.specs.Blocks.{HasDraft}
 use Rattle.session.specs.Calls.{IsReady}
-use Rattle.session.specs.Safe.{AreSafeDrafts, HasDraftIn, drafts_of, object_of, root_of, serial_of, view_of}
+use Rattle.session.specs.Safe.{AreDraftsIn, AreSafeDrafts, HasDraftIn, drafts_of, object_of, root_of, serial_of, view_of}
 use Rattle.session.specs.declared.common.Common.{Common}
 use Rattle.session.specs.declared.course.Course.{Course}
 
 -- a client that is ready and has one draft has it picked
 pub has_draft_in : {D : Type 0} (b : Ghosts D) (script : ScriptValue) (c : Common D) (s : Course) → IsReady b script c s → drafts_of s ≡ 1 → HasDraftIn (b.size c.store) s
 has_draft_in b script c s ready one =
-    let both = subst (λ n. AreSafeDrafts (b.size c.store) s.drafts n) one ready.safe.drafts in
-    record { one = one; picked = both.0; base = both.1 }
+    let is : AreDraftsIn (b.size c.store) s.drafts 1 = subst (λ n. AreSafeDrafts (b.size c.store) s.drafts n) one ready.safe.drafts in
+    let low = is.picked in
+    record { one = one; picked = omega (arith, low); base = is.bases 0 (omega arith) }
 
 pub has_draft : {D : Type 0} (b : Ghosts D) (script : ScriptValue) (c : Common D) (s : Course) → IsReady b script c s → drafts_of s ≡ 1 → HasDraft s
 has_draft b script c s ready one = (let d = has_draft_in b script c s ready one in record { one = one; picked = d.picked })

@@ -30,7 +30,8 @@ use Rattle.ground_model.proofs.LineTurns.{plain_sets_none}
 use Rattle.session.specs.Answers.{IsAnswered, IsAtCommand, IsCleared, NotesAlone}
 use Rattle.session.specs.Calls.{IsIn, IsReady, TurnCall}
 use Rattle.session.specs.Ends.{TurnGoes}
-use Rattle.session.specs.Own.{IsAtRest, IsDrafting, OwnsUpdate}
+use Rattle.session.specs.Own.{IsAtRest, OwnsUpdate}
+use Rattle.session.proofs.Drafting.{Alone, alone_in}
 use Rattle.session.specs.Safe.{drafts_of, line_of, root_of, serial_of, view_of}
 use Rattle.session.specs.Shared.{entries_of}
 use Rattle.session.specs.declared.common.Common.{Common}
@@ -49,7 +50,7 @@ use Rattle.session.proofs.Over.{IsOver, KeepsHeld, over_by, over_call, over_goes
 pub record HasOpen (scene : Scene) (script : ScriptValue) (s : Course) : Type 0 where
   pub update : Update
   pub is_open : (client_of scene.standing s.client).update ≡ Some update
-  pub drafting : IsDrafting scene script s update
+  pub drafting : Alone scene script s update
 
 pub has_open : (scripts : Scripts) (scene : Scene) (script : ScriptValue) (s : Course) → IsAtRest scripts scene script s → drafts_of s ≡ 1 → HasOpen scene script s
 has_open scripts scene script s rest one = by (client_of scene.standing s.client).update refl
@@ -58,7 +59,7 @@ has_open scripts scene script s rest one = by (client_of scene.standing s.client
     by None e =
         let none : drafts_of s ≡ 0 = subst (OwnsUpdate scene script s) e rest.update in
         absurd (omega (arith, none, one))
-    by (Some u) e = record { update = u; is_open = e; drafting = subst (OwnsUpdate scene script s) e rest.update }
+    by (Some u) e = record { update = u; is_open = e; drafting = alone_in scene script s u one (subst (OwnsUpdate scene script s) e rest.update) }
 
 -- the serials of an update of one file that made no version
 serials_are : (u : Update) (w : Work) → u.works ≡ w ∷ [] → serials_by [] (Some u) ≡ w.serial ∷ []

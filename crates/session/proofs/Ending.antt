@@ -1,5 +1,5 @@
 -- How a line ends: with its answer, and where it is the script's last one, with the update that is given up.
-use Rattle.std.proofs.Common.{◌≡◌, ◌≢◌, ℕ, zero, suc, ◌+◌, Bool, true, false, ◌&&◌, List, [], ◌∷◌, ◌++◌, length, length-append, Option, Some, None, refl, sym, ap, ◌∙◌, subst, slice_get, append_assoc, eqb-true}
+use Rattle.std.proofs.Common.{◌≡◌, ◌≢◌, ℕ, zero, suc, ◌+◌, Bool, true, false, ◌&&◌, cond, List, [], ◌∷◌, ◌++◌, length, length-append, Option, Some, None, refl, sym, ap, ◌∙◌, subst, slice_get, append_assoc, eqb-true}
 use Rattle.std.specs.List.{list_any, list_all}
 use Rattle.std.specs.Option.{option_map_or}
 use Rattle.script_text.specs.ScriptValue.{ScriptValue}
@@ -11,11 +11,13 @@ use Rattle.service_model.specs.Entries.{without_update}
 use Rattle.service_model.specs.Standing.{Scripts, Standing, Client, Update, client_of, has_file, has_locked, lines_of, next_line}
 use Rattle.ground_model.specs.Fronts.{is_change}
 use Rattle.ground_model.specs.Lines.{Notes, in_line}
-use Rattle.ground_model.specs.Scenes.{Scene}
+use Rattle.ground_model.specs.Scenes.{IsLinking, Scene}
+use Rattle.ground_model.proofs.LineTurns.{uncommitted_sets_none}
 use Rattle.ground_model.proofs.Noted.{answer_ends}
 use Rattle.session.specs.Answers.{ending, gives_up}
 use Rattle.session.specs.Ends.{AreOf}
-use Rattle.session.specs.Own.{IsAtRest, IsSeated, OwnsUpdate}
+use Rattle.service_model.specs.Sound.{is_committing}
+use Rattle.session.specs.Own.{IsAtRest, IsSeated}
 use Rattle.session.specs.Safe.{line_of}
 use Rattle.session.specs.declared.course.Course.{Course}
 use Rattle.session.proofs.Going.{always_due, is_always_due}
@@ -33,12 +35,9 @@ plain_locks_none c plain object = by c.update plain
     by None h = refl
     by (Some u) h = ap (λ b. b && has_file object u) (h u refl)
 
-pub own_is_plain : (scene : Scene) (script : ScriptValue) (s : Course) (o : Option Update) → OwnsUpdate scene script s o → (u : Update) → o ≡ Some u → u.is_super ≡ false
-own_is_plain scene script s None own u is = absurd (cc is)
-own_is_plain scene script s (Some v) own u is = (let same : v ≡ u = cc in subst (λ (x : Update). x.is_super ≡ false) same own.plain.plain)
-
-pub rest_is_plain : (scripts : Scripts) (scene : Scene) (script : ScriptValue) (s : Course) → IsAtRest scripts scene script s → HasPlain (client_of scene.standing s.client)
-rest_is_plain scripts scene script s rest = own_is_plain scene script s (client_of scene.standing s.client).update rest.update
+-- a client between two lines sets no links
+pub rest_sets_none : (scripts : Scripts) (scene : Scene) (script : ScriptValue) (s : Course) → IsAtRest scripts scene script s → (object : ℕ) (l : IsLinking scene.standing object) → l.client ≢ s.client
+rest_sets_none scripts scene script s rest = uncommitted_sets_none scene.standing s.client (ap (list_any is_committing) rest.fresh)
 
 -- ---- the end of a line
 
@@ -47,9 +46,10 @@ abbrev pub left_with : Client → Bool → Client
 left_with c false = c
 left_with c true = without_update c
 
-pub left_plain : (c : Client) (b : Bool) → HasPlain c → HasPlain (left_with c b)
-left_plain c false plain = plain
-left_plain c true plain = λ u is. absurd (cc is)
+-- whom it leaves has locked what it had, or nothing
+pub left_locks : (c : Client) (b : Bool) (object : ℕ) → has_locked object (left_with c b) ≡ cond b false (has_locked object c)
+left_locks c false object = refl
+left_locks c true object = refl
 
 pub left_answers : (c : Client) (b : Bool) → (left_with c b).answers ≡ c.answers
 left_answers c false = refl

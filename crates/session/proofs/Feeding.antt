@@ -32,6 +32,7 @@ use Rattle.session.specs.declared.stage.Stage.TheVariants as stage
 use Rattle.session.specs.declared.turned.Fault.{Fault}
 use Rattle.session.specs.declared.turned.Turned.{Turned}
 use Rattle.session.specs.declared.turned.Turned.TheVariants as turned
+use Rattle.session.proofs.Drafting.{one_in}
 use Rattle.session.proofs.BlockLaws.{BlockLaws}
 use Rattle.session.proofs.Counting.{one_more_low}
 use Rattle.session.proofs.NextVersions.{work_by}
@@ -88,7 +89,7 @@ module _ {D : Type 0} (b : Ghosts D) (script : ScriptValue) (c c' : Common D) (s
       lines = subst (λ (r : RepliesValue). length r.items ≤ length script.lines) (sym course_is.replies) ready.safe.lines;
       room = subst (λ (r : RepliesValue). length script.lines ≤ r.room) (sym course_is.replies) ready.safe.room;
       held = ap (λ k. held_count k c.map) course_is.client ∙ ready.safe.held ∙ sym course_is.held;
-      drafts = subst (AreSafeDrafts (b.size c.store) s'.drafts) (sym taken.same.one) (taken.same.picked, subst (λ n. n < b.size c.store) (sym taken.same.root) draft.base);
+      drafts = subst (AreSafeDrafts (b.size c.store) s'.drafts) (sym taken.same.one) (one_in (b.size c.store) s'.drafts taken.same.picked (subst (λ n. n < b.size c.store) (sym taken.same.root) draft.base));
       stage = subst (IsSafeStage (length c.map) s') (sym stage_is) taken.same.one;
     }
 

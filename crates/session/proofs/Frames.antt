@@ -18,6 +18,7 @@ use Rattle.ground_model.proofs.Bounded.{turns_are_left}
 use Rattle.ground_model.proofs.Ahead.{base_is_left, base_low, walk_is_left}
 use Rattle.ground_model.proofs.Steps.{left_is_kept}
 use Rattle.session.specs.Laws.{OwnIsLeft, SafeIsLeft}
+use Rattle.session.proofs.Drafting.{slice_contains}
 use Rattle.session.specs.Own.{IsAtRest, IsCommittingOf, IsDrafting, IsMergedIn, IsNaming, IsSeated, IsTaken, IsWalkingOn, IsWritingOut, OwnsStage, OwnsUpdate}
 use Rattle.session.specs.Safe.{AreSafeDrafts, IsSafeStage, drafts_of, serial_of}
 use Rattle.session.specs.declared.course.Course.{Course}
@@ -44,10 +45,19 @@ module _ (scripts : Scripts) (old new : Scene) (script : ScriptValue) (s : Cours
 
   drafting_stays : (u : Update) → 1 ≤ s.client → (client_of old.standing s.client).update ≡ Some u → IsDrafting old script s u → IsDrafting new script s u
   drafting_stays u low is h = record {
-    work = h.work;
-    plain = h.plain;
-    serial = h.serial;
-    draft = kept.draft h.work (record { update = u; number = low; is_open = is; listed = alone_listed u h.work h.plain.works }) _ _ h.draft;
+    number = h.number;
+    several = h.several;
+    picked = h.picked;
+    within = h.within;
+    count = h.count;
+    each = λ i w there.
+        let own = h.each i w there in
+        record {
+          rights = own.rights;
+          object = own.object;
+          serial = own.serial;
+          draft = kept.draft w (record { update = u; number = low; is_open = is; listed = slice_contains u.works i w there }) _ _ own.draft;
+        };
     fed = h.fed;
   }
 

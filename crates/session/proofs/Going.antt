@@ -1,7 +1,7 @@
 -- How a turn of a line that writes nothing goes on to another scene.
-use Rattle.std.proofs.Common.{◌≡◌, ◌≢◌, ◌⊎◌, inl, inr, ℕ, ◌-◌, ◌≤◌, Bool, true, false, List, [], ◌∷◌, ◌++◌, refl, sym, ap, ◌∙◌, subst, arith, slice_get, append-nil, append_assoc}
+use Rattle.std.proofs.Common.{◌≡◌, ◌≢◌, ◌⊎◌, ◌↔◌, inl, inr, ℕ, ◌-◌, ◌≤◌, Bool, true, false, true≢false, List, [], ◌∷◌, ◌++◌, refl, sym, ap, ◌∙◌, subst, arith, slice_get, append-nil, append_assoc}
 use Rattle.std.specs.Prelude.{slice_index_or}
-use Rattle.std.specs.List.{list_all}
+use Rattle.std.specs.List.{list_all, list_any}
 use Rattle.std.specs.Cmp.{first_so, second_so}
 use Rattle.std.proofs.lemmas.Bool.{cases_eq}
 use Rattle.block_map.specs.declared.states.BlockState.{BlockState}
@@ -16,13 +16,13 @@ use Rattle.service_model.specs.Entries.{after_entries, after_entry}
 use Rattle.service_model.specs.Order.{IsDue}
 use Rattle.service_model.specs.Standing.{Scripts, Standing, Client, client_of, has_locked, newcomer, seal_in}
 use Rattle.service_model.proofs.Journals.{apart, set_other}
-use Rattle.super_files.specs.Locks.{Holds}
+use Rattle.super_files.specs.Locks.{Holds, without}
 use Rattle.super_files.specs.declared.locks.Lock.{Lock}
 use Rattle.store_changes.specs.Writes.{Content}
 use Rattle.tree_model.specs.States.{State}
 use Rattle.ground_model.specs.Fronts.{AreOfTurn}
 use Rattle.ground_model.specs.LineTurns.{IsLineTurn, LineTurnStands}
-use Rattle.ground_model.specs.Lines.{Notes}
+use Rattle.ground_model.specs.Lines.{Becomes, Notes}
 use Rattle.ground_model.specs.Own.{IsClient}
 use Rattle.ground_model.specs.Quiet.{IsQuietTurn}
 use Rattle.ground_model.specs.Runs.{IsRead, Stands}
@@ -36,10 +36,11 @@ use Rattle.play_order.specs.Orders.{AreDue}
 use Rattle.session.specs.Ends.{AreOf, GoesTo, TurnGoes}
 use Rattle.session.specs.Own.{IsOwn, IsSeated}
 use Rattle.session.specs.Reads.{StoreAlone}
-use Rattle.session.specs.Shared.{RunStands, doubt_of, entries_of}
+use Rattle.session.specs.Shared.{AreLocksIn, RunStands, doubt_of, entries_of}
 use Rattle.session.specs.declared.common.Common.{Common}
 use Rattle.session.specs.declared.course.Course.{Course}
 use Rattle.session.proofs.Calling.{of_none}
+use Rattle.session.proofs.Released.{is_his, none_without, others_without}
 
 -- ---- entries that are due
 
@@ -70,17 +71,16 @@ always_due scripts s (e ∷ es) h = (
 
 -- ---- what is shared
 
--- These entries were noted, the map is this one now, and nothing else of what is shared changed but the store.
+-- These entries were noted, the map is this one now, and nothing else of what is shared changed but the store and the locks.
 pub record SharesOn {D : Type 0} (c c' : Common D) (es : List Entry) (states : List BlockState) : Type 0 where
   pub entries : entries_of c' ≡ entries_of c ++ es
   pub doubt : doubt_of c' ≡ doubt_of c
   pub map : c'.map ≡ states
   pub heads : c'.heads.items ≡ c.heads.items
   pub table : c'.table ≡ c.table
-  pub locks : c'.locks ≡ c.locks
 
 pub shares_same : {D : Type 0} (c : Common D) → SharesOn c c [] c.map
-shares_same c = record { entries = sym (append-nil (entries_of c)); doubt = refl; map = refl; heads = refl; table = refl; locks = refl }
+shares_same c = record { entries = sym (append-nil (entries_of c)); doubt = refl; map = refl; heads = refl; table = refl }
 
 pub shares_noted : {D : Type 0} (c c' : Common D) (es : List Entry) → NotesAlone c c' es → SharesOn c c' es c.map
 shares_noted {D} c c' es n = record {
@@ -89,7 +89,6 @@ shares_noted {D} c c' es n = record {
   map = ap (λ (x : Common D). x.map) n.only;
   heads = ap (λ (x : Common D). x.heads.items) n.only;
   table = ap (λ (x : Common D). x.table) n.only;
-  locks = ap (λ (x : Common D). x.locks) n.only;
 }
 
 pub shares_read : {D : Type 0} (b : Ghosts D) (c c' : Common D) → StoreAlone b c c' → SharesOn c c' [] c.map
@@ -99,7 +98,6 @@ shares_read {D} b c c' alone = record {
   map = ap (λ (x : Common D). x.map) alone.only;
   heads = ap (λ (x : Common D). x.heads.items) alone.only;
   table = ap (λ (x : Common D). x.table) alone.only;
-  locks = ap (λ (x : Common D). x.locks) alone.only;
 }
 
 -- one part after the other, where the second leaves the map
@@ -110,8 +108,56 @@ shares_trans c mid c' es fs states one two = record {
   map = two.map ∙ one.map;
   heads = two.heads ∙ one.heads;
   table = two.table ∙ one.table;
-  locks = two.locks ∙ one.locks;
 }
+
+-- ---- locks
+
+-- Each object that client k has locked then it has locked now, and the other way round.
+abbrev pub LocksAlike : Client → Client → Type 0
+LocksAlike old new = (object : ℕ) → has_locked object new ≡ has_locked object old
+
+-- What is said of the locks after the entries of a line of client k, which is that client then.
+module _ (scripts : Scripts) (k : ℕ) (scene : Scene) (fs : List Entry) (client : Client) (low : 1 ≤ k) (becomes : Becomes k client scene.standing (after_entries scripts scene.standing fs)) (is : IsClient scene.standing k)
+    (old new : List Lock) (locks : AreLocksIn scene.standing old) where
+  abbrev then : Standing
+  then = after_entries scripts scene.standing fs
+
+  own_then : client_of then k ≡ client
+  own_then = became scene.standing then k client is becomes
+
+  other_then : (j : ℕ) → 1 ≤ j → j ≢ k → client_of then j ≡ client_of scene.standing j
+  other_then j low_j ne =
+      ap (λ cs. slice_index_or cs (j - 1) newcomer) becomes.clients
+      ∙ set_other scene.standing.clients (k - 1) (j - 1) client newcomer (apart k j low low_j ne)
+
+  -- the same locks stand where the client has the same files locked
+  pub locks_kept : new ≡ old → LocksAlike (client_of scene.standing k) client → AreLocksIn then new
+  locks_kept same alike j object low_j = (
+    λ holds. locked j low_j (cases_eq j k) ∙ (locks j object low_j).0 (subst (λ (ls : List Lock). Holds j object ls) same holds),
+    λ has. subst (λ (ls : List Lock). Holds j object ls) (sym same) ((locks j object low_j).1 (sym (locked j low_j (cases_eq j k)) ∙ has)),
+  )
+    where
+      locked : (j : ℕ) → 1 ≤ j → (j ≡ k) ⊎ (j ≢ k) → has_locked object (client_of then j) ≡ has_locked object (client_of scene.standing j)
+      locked j low_j (inl e) =
+          ap (λ n. has_locked object (client_of then n)) e ∙ ap (has_locked object) own_then ∙ alike object
+          ∙ ap (λ n. has_locked object (client_of scene.standing n)) (sym e)
+      locked j low_j (inr ne) = ap (has_locked object) (other_then j low_j ne)
+
+  -- and those of the others stand where it has none locked
+  pub locks_go : new ≡ without k old → ((object : ℕ) → has_locked object client ≡ false) → AreLocksIn then new
+  locks_go same none j object low_j = by (cases_eq j k)
+    where
+      by : (j ≡ k) ⊎ (j ≢ k) → Holds j object new ↔ (has_locked object (client_of then j) ≡ true)
+      by (inl e) =
+          let off : has_locked object (client_of then j) ≡ false = ap (λ n. has_locked object (client_of then n)) e ∙ ap (has_locked object) own_then ∙ none object in (
+            λ holds. absurd (true≢false (sym holds ∙ ap (list_any (is_his j object)) same ∙ ap (λ n. list_any (is_his n object) (without k old)) e ∙ none_without k object old)),
+            λ has. absurd (true≢false (sym has ∙ off)),
+          )
+      by (inr ne) =
+          let there : list_any (is_his j object) new ≡ list_any (is_his j object) old = ap (list_any (is_his j object)) same ∙ others_without k j object old ne in (
+            λ holds. ap (has_locked object) (other_then j low_j ne) ∙ (locks j object low_j).0 (sym there ∙ holds),
+            λ has. there ∙ (locks j object low_j).1 (sym (ap (has_locked object) (other_then j low_j ne)) ∙ has),
+          )
 
 -- ---- scenes
 
@@ -121,22 +167,9 @@ scene_after b scripts scene c' states es = moved_to scene (b.content c'.store) s
 
 module _ {D : Type 0} (b : Ghosts D) (law : LineTurnStands b) (opening : State) (scripts : Scripts) (first k : ℕ) (scene : Scene) (c c' : Common D) (fs : List Entry) (client : Client) (states : List BlockState)
     (st : RunStands b opening scripts first scene c) (turn : IsLineTurn b scripts k scene c.store c'.store fs client states) (shares : SharesOn c c' fs states)
-    (locks : (object : ℕ) → has_locked object client ≡ has_locked object (client_of scene.standing k)) where
+    (locks : AreLocksIn (after_entries scripts scene.standing fs) c'.locks) where
   abbrev after : Scene
   after = moved_to scene (b.content c'.store) states (after_entries scripts scene.standing fs)
-
-  locked_then : (j object : ℕ) → 1 ≤ j → has_locked object (client_of after.standing j) ≡ has_locked object (client_of scene.standing j)
-  locked_then j object low = by (cases_eq j k)
-    where
-      by : (j ≡ k) ⊎ (j ≢ k) → has_locked object (client_of after.standing j) ≡ has_locked object (client_of scene.standing j)
-      by (inl e) =
-          ap (λ n. has_locked object (client_of after.standing n)) e
-          ∙ ap (has_locked object) (became scene.standing after.standing k client turn.client turn.notes.becomes)
-          ∙ locks object ∙ ap (λ n. has_locked object (client_of scene.standing n)) (sym e)
-      by (inr ne) =
-          ap (has_locked object)
-          (ap (λ cs. slice_index_or cs (j - 1) newcomer) turn.notes.becomes.clients
-          ∙ set_other scene.standing.clients (k - 1) (j - 1) client newcomer (apart k j turn.client.low low ne))
 
   goes_on : RunStands b opening scripts first after c'
   goes_on = record {
@@ -146,10 +179,7 @@ module _ {D : Type 0} (b : Ghosts D) (law : LineTurnStands b) (opening : State) 
     map = shares.map;
     heads = shares.heads ∙ st.heads;
     seals = λ object. ap (λ (t : TableValue). seal_of t object) shares.table ∙ st.seals object ∙ ap (λ (x : State). seal_in x object) (sym turn.notes.becomes.state);
-    locks = λ j object low. (
-      λ holds. locked_then j object low ∙ (st.locks j object low).0 (subst (λ (ls : List Lock). Holds j object ls) shares.locks holds),
-      λ has. subst (λ (ls : List Lock). Holds j object ls) (sym shares.locks) ((st.locks j object low).1 (sym (locked_then j object low) ∙ has)),
-    );
+    locks = locks;
   }
 
   -- the run goes on in the scene with that map and those entries noted
@@ -188,7 +218,7 @@ quiet_is_line b scripts k scene before later es client mapped turn = record {
 
 module _ {D : Type 0} (b : Ghosts D) (law : LineTurnStands b) (opening : State) (scripts : Scripts) (first k : ℕ) (scene : Scene) (c c' : Common D) where
   pub goes_quiet : (fs : List Entry) (client : Client) → RunStands b opening scripts first scene c → IsQuietTurn b scripts k scene c.store c'.store fs client → SharesOn c c' fs c.map
-      → ((object : ℕ) → has_locked object client ≡ has_locked object (client_of scene.standing k)) → AreOf scripts scene.standing k fs
+      → AreLocksIn (after_entries scripts scene.standing fs) c'.locks → AreOf scripts scene.standing k fs
       → GoesTo b opening scripts first scene (moved_to scene (b.content c'.store) scene.states (after_entries scripts scene.standing fs)) c c' k fs
   goes_quiet fs client st turn shares locks of_client =
       goes_line b law opening scripts first k scene c c' fs client scene.states st
@@ -197,12 +227,12 @@ module _ {D : Type 0} (b : Ghosts D) (law : LineTurnStands b) (opening : State) 
 
   -- where nothing was noted, and at most a block was read
   pub goes_read : RunStands b opening scripts first scene c → IsClient scene.standing k → ((object : ℕ) (l : IsLinking scene.standing object) → l.client ≢ k)
-      → IsRead b c.store c'.store → SharesOn c c' [] c.map
+      → IsRead b c.store c'.store → SharesOn c c' [] c.map → c'.locks ≡ c.locks
       → GoesTo b opening scripts first scene (moved_to scene (b.content c'.store) scene.states scene.standing) c c' k []
-  goes_read st client links read shares =
+  goes_read st client links read shares same =
       goes_quiet [] (client_of scene.standing k) st
       (record { client = client; notes = nothing_is_noted scripts scene.standing k; held = refl; links = links; read = read; moments = record { moments = refl; one = omega arith } })
-      shares (λ object. refl) (of_none scripts scene.standing k)
+      shares (subst (λ (ls : List Lock). AreLocksIn scene.standing ls) (sym same) st.locks) (of_none scripts scene.standing k)
 
 -- ---- the turn
 

@@ -31,14 +31,14 @@ use Rattle.session.specs.Calls.{IsIn, IsReady, KeepsNumbers, KeepsRoom, MoveCall
 use Rattle.session.specs.Ends.{AreOf, GoesTo}
 use Rattle.session.specs.Own.{IsHolding, IsMerged, IsTaken, IsUnworn}
 use Rattle.session.specs.Safe.{AreSafeDrafts, IsSafe, IsSafeStage, IsSafeStore, drafts_of, line_of, noted_for, serial_of}
-use Rattle.session.specs.Shared.{entries_of}
+use Rattle.session.specs.Shared.{AreLocksIn, entries_of}
 use Rattle.session.specs.declared.common.Common.{Common}
 use Rattle.session.specs.declared.course.Course.{Course}
 use Rattle.session.specs.declared.stage.Stage.{Stage}
 use Rattle.session.proofs.BlockLaws.{BlockLaws}
 use Rattle.session.proofs.Deciding.{at_commit, line_here, of_line, run_sound, sets_none}
 use Rattle.session.proofs.Drafts.{fresh_told, has_draft}
-use Rattle.session.proofs.Going.{SharesOn, goes_line}
+use Rattle.session.proofs.Going.{SharesOn, goes_line, locks_kept}
 use Rattle.session.proofs.Numbers.{safe_store_on}
 use Rattle.session.proofs.Refusing.{held_is_due, needed_here, none_taken}
 use Rattle.session.proofs.Courses.{course_with}
@@ -176,8 +176,12 @@ module _ {D : Type 0} (b : Ghosts D) (script : ScriptValue) (c c' : Common D) (s
       map = refl;
       heads = heads_are;
       table = ap (λ (x : Common D). x.table) noted.only;
-      locks = ap (λ (x : Common D). x.locks) noted.only;
     }
+
+    locks_then : AreLocksIn (after_entries scripts scene.standing (e ∷ [])) c'.locks
+    locks_then =
+        locks_kept scripts s.client scene (e ∷ []) client m.committing.seated.client.low turn.notes.becomes m.committing.seated.client c.locks c'.locks is.stands.locks
+        (ap (λ (x : Common D). x.locks) noted.only) (λ object. refl)
 
     abbrev after : Scene
     after = moved_to scene (b.content c'.store) c'.map (after_entries scripts scene.standing (e ∷ []))
@@ -189,7 +193,7 @@ module _ {D : Type 0} (b : Ghosts D) (script : ScriptValue) (c c' : Common D) (s
     }
 
     goes : GoesTo b opening scripts first scene after c c' s.client (e ∷ [])
-    goes = goes_line b (laws told).lines opening scripts first s.client scene c c' (e ∷ []) client c'.map is.stands turn shares (λ object. refl) of_client
+    goes = goes_line b (laws told).lines opening scripts first s.client scene c c' (e ∷ []) client c'.map is.stands turn shares locks_then of_client
 
     mine : IsHolding scripts after script s'
     mine =

@@ -1,4 +1,5 @@
 pub mod OtherLocks
+pub mod Released
 pub mod Counting
 pub mod Calling
 pub mod Going
@@ -11,7 +12,9 @@ pub mod RefusedLines
 pub mod EndedLines
 pub mod Abandoning
 pub mod Never
+pub mod Drafting
 pub mod Stepping
+pub mod Picking
 pub mod ReadTurns
 pub mod FedPages
 pub mod Fetching

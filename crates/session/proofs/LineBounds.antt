@@ -1,4 +1,4 @@
--- The turns of a line are within its bound; a client that rests is between two lines; and an open update is of one file.
+-- The turns of a line are within its bound; a client that rests is between two lines; and an open update is of at most seventeen files.
 use Rattle.std.proofs.Common.{◌≡◌, inl, inr, ℕ, zero, suc, ◌+◌, ◌≤◌, List, [], ◌∷◌, length, length-append, Option, Some, None, sym, ap, ◌∙◌, subst, arith, slice_get}
 use Rattle.std.specs.Option.{option_map_or}
 use Rattle.joint_walk.specs.Walks.{WalkValue}
@@ -14,12 +14,13 @@ use Rattle.version_chain.specs.Flush.{Plan}
 use Rattle.ground_model.specs.Bounds.{command_bound, commit_bound, line_bound, shared_of, turns_to}
 use Rattle.ground_model.specs.Scenes.{Scene}
 use Rattle.ground_model.proofs.Bounded.{turns_fit, turns_grow, walk_is_within}
-use Rattle.session.specs.Laws.{RestIsBetween, TurnsAreWithin, UpdateIsPlain}
+use Rattle.session.specs.Laws.{RestIsBetween, TurnsAreWithin, UpdateIsSmall}
 use Rattle.session.specs.Own.{HasFed, IsAtRest, IsCommittingOf, IsSeated, IsTaken, IsWalkingOn, IsWritingOut, OwnsStage, OwnsUpdate}
 use Rattle.session.specs.Safe.{AreSafeDrafts, drafts_of, line_of, root_of, view_of}
 use Rattle.session.specs.declared.course.Course.{Course}
 use Rattle.session.specs.declared.stage.Stage.{Stage}
 use Rattle.session.specs.declared.stage.Stage.TheVariants.{Resting, Naming, Walking, Writing}
+use Rattle.pool_draft.specs.declared.pool_set.PoolSet.{PoolSet}
 use Rattle.session.proofs.Ending.{its_lines, its_next}
 use Rattle.session.proofs.LineEnds.{own_is_none}
 
@@ -121,22 +122,31 @@ rest_is_between scripts scene script s resting own =
 
 -- ---- updates
 
-plain_at_rest : (scene : Scene) (script : ScriptValue) (s : Course) (o : Option Update) → OwnsUpdate scene script s o → (u : Update) → o ≡ Some u → (w : Work) × (u.works ≡ w ∷ [])
-plain_at_rest scene script s None own u is = absurd (cc is)
-plain_at_rest scene script s (Some v) own u is = (let same : v ≡ u = cc in (own.work, subst (λ (x : Update). x.works ≡ own.work ∷ []) same own.plain.works))
+few_drafts : (size : ℕ) (set : PoolSet) (n : ℕ) → AreSafeDrafts size set n → n ≤ 1
+few_drafts size set zero safe = omega arith
+few_drafts size set (suc zero) safe = omega arith
+few_drafts size set (suc (suc n)) safe = absurd safe
 
-plain_within : (scripts : Scripts) (scene : Scene) (script : ScriptValue) (s : Course) (v : Update) (w : Work) → IsCommittingOf scripts scene script s v w
-    → (u : Update) → IsOpenAt scene.standing s.client u → (x : Work) × (u.works ≡ x ∷ [])
-plain_within scripts scene script s v w co u is =
+small_at_rest : (scene : Scene) (script : ScriptValue) (s : Course) (o : Option Update) → drafts_of s ≤ 1 → OwnsUpdate scene script s o → (u : Update) → o ≡ Some u → length u.works ≤ 17
+small_at_rest scene script s None few own u is = absurd (cc is)
+small_at_rest scene script s (Some v) few own u is =
+    let same : v ≡ u = cc in
+    let number = own.number in
+    subst (λ (x : Update). length x.works ≤ 17) same (omega (arith, number, few))
+
+small_within : (scripts : Scripts) (scene : Scene) (script : ScriptValue) (s : Course) (v : Update) (w : Work) → IsCommittingOf scripts scene script s v w
+    → (u : Update) → IsOpenAt scene.standing s.client u → length u.works ≤ 17
+small_within scripts scene script s v w co u is =
     let both : Some v ≡ Some u = sym co.is_open ∙ is in
     let same : v ≡ u = cc in
-    (w, subst (λ (x : Update). x.works ≡ w ∷ []) same co.plain.works)
+    let one = ap length co.plain.works in
+    subst (λ (x : Update). length x.works ≤ 17) same (omega (arith, one))
 
-pub update_is_plain : UpdateIsPlain
-update_is_plain scripts scene script s own = by s.stage own
+pub update_is_small : UpdateIsSmall
+update_is_small size map scripts scene script s safe own = by s.stage own
   where
-    by : (stage : Stage) → OwnsStage scripts scene script s stage → (u : Update) → IsOpenAt scene.standing s.client u → (w : Work) × (u.works ≡ w ∷ [])
-    by Resting h = plain_at_rest scene script s (client_of scene.standing s.client).update h.update
-    by (Naming next) h = plain_within scripts scene script s h.merged.update h.merged.work h.merged.committing
-    by (Walking walk) h = plain_within scripts scene script s h.update h.work h.committing
-    by (Writing flush) h = plain_within scripts scene script s h.merged.update h.merged.work h.merged.committing
+    by : (stage : Stage) → OwnsStage scripts scene script s stage → (u : Update) → IsOpenAt scene.standing s.client u → length u.works ≤ 17
+    by Resting h = small_at_rest scene script s (client_of scene.standing s.client).update (few_drafts size s.drafts (drafts_of s) safe.drafts) h.update
+    by (Naming next) h = small_within scripts scene script s h.merged.update h.merged.work h.merged.committing
+    by (Walking walk) h = small_within scripts scene script s h.update h.work h.committing
+    by (Writing flush) h = small_within scripts scene script s h.merged.update h.merged.work h.merged.committing

@@ -1,31 +1,30 @@
 -- A turn that did something for its line and then answered it.
-use Rattle.std.proofs.Common.{◌≡◌, ◌≢◌, ◌⊎◌, inl, inr, ℕ, zero, suc, ◌+◌, ◌^◌, ◌<◌, ◌≤◌, ◌==◌, Bool, true, false, List, [], ◌∷◌, ◌++◌, length, length-append, Option, Some, None, refl, sym, ap, ◌∙◌, subst, arith, slice_get, get_or, eq-eqb}
+use Rattle.std.proofs.Common.{◌≡◌, ◌≢◌, ◌⊎◌, inl, inr, ℕ, zero, suc, ◌+◌, ◌^◌, ◌<◌, ◌≤◌, ◌==◌, Bool, true, false, ◌||◌, List, [], ◌∷◌, ◌++◌, length, length-append, Option, Some, None, refl, sym, ap, ◌∙◌, subst, arith, slice_get, get_or, eq-eqb}
 use Rattle.std.specs.Prelude.{IfSome}
 use Rattle.std.proofs.lemmas.Option.{slice_get-get_or}
 use Rattle.drives.specs.declared.device.Half.{Half}
 use Rattle.drives.proofs.Composing.{stays}
 use Rattle.pair_store.specs.Blocks.{CountsOne, SameContents}
 use Rattle.pair_store.specs.declared.store.Blocks.{Ghosts}
-use Rattle.pool_draft.specs.Roots.{object_in, root_in, serial_in}
-use Rattle.pool_draft.specs.Sets.{base_at, roots_of, view_at}
+use Rattle.pool_draft.specs.Sets.{picked_of, roots_of}
 use Rattle.pool_draft.specs.declared.pool_set.PoolSet.{PoolSet}
 use Rattle.script_text.specs.ScriptValue.{ScriptValue}
 use Rattle.script_text.specs.declared.reply.LineReply.{LineReply}
 use Rattle.script_text.specs.declared.script.Line.{Line}
 use Rattle.service_model.specs.declared.journal.Entry.{Entry}
-use Rattle.service_model.specs.Standing.{Scripts, Client, Update, Work}
+use Rattle.service_model.specs.Standing.{Scripts, Client, Update}
 use Rattle.ground_model.specs.Leaves.{KeepsVersions}
 use Rattle.ground_model.specs.Lines.{IsAt}
-use Rattle.ground_model.specs.Own.{HasDraft}
 use Rattle.ground_model.specs.Runs.{IsRead}
 use Rattle.ground_model.specs.Scenes.{Scene}
-use Rattle.ground_model.proofs.Drafting.{draft_stays_own}
-use Rattle.session.specs.Answers.{AreLeft, IsAnswered, IsCleared, NotesAlone, ending, gives_up}
+use Rattle.super_files.specs.Locks.{without}
+use Rattle.super_files.specs.declared.locks.Lock.{Lock}
+use Rattle.session.specs.Answers.{AreLeft, EndsAlone, IsAnswered, IsCleared, LetsGo, NotesAlone, ending, gives_up, locks_left}
 use Rattle.session.specs.Reads.{StoreAlone}
 use Rattle.session.specs.Calls.{IsReady}
-use Rattle.session.specs.Own.{HasFed, IsAtRest, IsPlain, OwnsUpdate}
-use Rattle.session.specs.Safe.{AreSafeDrafts, drafts_of, line_of, root_of, view_of}
-use Rattle.session.specs.Shared.{room_of}
+use Rattle.session.specs.Own.{HasFed, IsAtRest, OwnsUpdate}
+use Rattle.session.specs.Safe.{AreSafeDrafts, drafts_of, line_of}
+use Rattle.session.specs.Shared.{doubt_of, entries_of, room_of}
 use Rattle.session.specs.Values.{RepliesValue}
 use Rattle.session.specs.declared.common.Common.{Common}
 use Rattle.session.specs.declared.course.Course.{Course}
@@ -33,6 +32,8 @@ use Rattle.session.specs.declared.stage.Stage.TheVariants.{Resting}
 use Rattle.session.proofs.Answering.{HasAnswered, IsAfter}
 use Rattle.session.proofs.Counting.{same_rest}
 use Rattle.session.proofs.Ending.{its_next, left_with}
+use Rattle.session.proofs.Released.{left_twice}
+use Rattle.session.proofs.Drafting.{drafting_stays, some_picked}
 use Rattle.session.proofs.Going.{SharesOn, shares_noted, shares_read, shares_same, shares_trans}
 
 -- ---- the line
@@ -72,9 +73,11 @@ untouched {D} b clock old new same =
 
 -- ---- numbers
 
--- Before its answer the turn noted these entries; at most one block was read. The client holds what it held, and rests.
-pub record HasCome {D : Type 0} (b : Ghosts D) (es : List Entry) (c mid : Common D) (s t : Course) : Type 0 where
+-- Before its answer the turn noted these entries; at most one block was read. The client holds what it held, and rests; its
+-- locks may have gone with its update.
+pub record HasCome {D : Type 0} (b : Ghosts D) (es : List Entry) (gone : Bool) (c mid : Common D) (s t : Course) : Type 0 where
   pub shares : SharesOn c mid es c.map
+  pub locks : mid.locks ≡ locks_left s.client c.locks gone
   pub size : b.size mid.store ≡ b.size c.store
   pub room : room_of mid ≡ room_of c
   pub faults : (h : Half) → b.faults c.store h ≤ b.faults mid.store h
@@ -100,9 +103,10 @@ pub may_stay : {D : Type 0} (b : Ghosts D) (script : ScriptValue) (c : Common D)
 may_stay b script c s ready = record { client = refl; replies = refl; held = refl; stage = ready.stage; drafts = ready.safe.drafts }
 
 -- nothing that is shared changed before the answer
-pub come_to : {D : Type 0} (b : Ghosts D) (c : Common D) (s t : Course) → MayCome b c s t → HasCome b [] c c s t
+pub come_to : {D : Type 0} (b : Ghosts D) (c : Common D) (s t : Course) → MayCome b c s t → HasCome b [] false c c s t
 come_to b c s t may = record {
   shares = shares_same c;
+  locks = refl;
   size = refl;
   room = refl;
   faults = λ h. omega arith;
@@ -119,9 +123,10 @@ come_to b c s t may = record {
 
 -- a block was read before it
 pub come_read : {D : Type 0} (b : Ghosts D) (c mid : Common D) (s t : Course) → StoreAlone b c mid → CountsOne (b.count c.store) (b.count mid.store) → (b.tells → b.rest c.store → b.rest mid.store) → MayCome b c s t
-    → HasCome b [] c mid s t
+    → HasCome b [] false c mid s t
 come_read {D} b c mid s t alone one rest may = record {
   shares = shares_read b c mid alone;
+  locks = ap (λ (x : Common D). x.locks) alone.only;
   size = alone.size;
   room = ap (λ (x : Common D). room_of x) alone.only;
   faults = alone.faults;
@@ -137,9 +142,10 @@ come_read {D} b c mid s t alone one rest may = record {
 }
 
 -- an entry was noted before it
-pub come_noted : {D : Type 0} (b : Ghosts D) (e : Entry) (c mid new : Common D) (s t : Course) → HasCome b [] c mid s t → NotesAlone mid new (e ∷ []) → HasCome b (e ∷ []) c new s t
+pub come_noted : {D : Type 0} (b : Ghosts D) (e : Entry) (c mid new : Common D) (s t : Course) → HasCome b [] false c mid s t → NotesAlone mid new (e ∷ []) → HasCome b (e ∷ []) false c new s t
 come_noted {D} b e c mid new s t come is = record {
   shares = shares_trans c mid new [] (e ∷ []) c.map come.shares (shares_noted mid new (e ∷ []) is);
+  locks = ap (λ (x : Common D). x.locks) is.only ∙ come.locks;
   size = ap (λ (x : Common D). b.size x.store) is.only ∙ come.size;
   room = is.noted.room ∙ come.room;
   faults = λ h. subst (λ n. b.faults c.store h ≤ n) (sym (ap (λ (x : Common D). b.faults x.store h) is.only)) (come.faults h);
@@ -154,6 +160,35 @@ come_noted {D} b e c mid new s t come is = record {
   drafts = come.drafts;
 }
 
+-- a set without drafts is safe
+pub cleared_safe : (size : ℕ) (set : PoolSet) → IsCleared set → AreSafeDrafts size set (roots_of set)
+cleared_safe size set cleared = subst (λ n. AreSafeDrafts size set n) (sym cleared.none) (cleared.count, cleared.fed)
+
+-- the update was let go of before it
+pub come_free : {D : Type 0} (b : Ghosts D) (es : List Entry) (c mid new : Common D) (s t u : Course) → HasCome b es false c mid s t → LetsGo mid new t u → HasCome b es true c new s u
+come_free {D} b es c mid new s t u come is = record {
+  shares = record {
+    entries = ap (λ (x : Common D). entries_of x) is.locks ∙ come.shares.entries;
+    doubt = ap (λ (x : Common D). doubt_of x) is.locks ∙ come.shares.doubt;
+    map = ap (λ (x : Common D). x.map) is.locks ∙ come.shares.map;
+    heads = ap (λ (x : Common D). x.heads.items) is.locks ∙ come.shares.heads;
+    table = ap (λ (x : Common D). x.table) is.locks ∙ come.shares.table;
+  };
+  locks = ap (λ (x : Common D). x.locks) is.locks ∙ ap (λ k. without k mid.locks) come.client ∙ ap (without s.client) come.locks;
+  size = ap (λ (x : Common D). b.size x.store) is.locks ∙ come.size;
+  room = ap (λ (x : Common D). room_of x) is.locks ∙ come.room;
+  faults = λ h. subst (λ n. b.faults c.store h ≤ n) (sym (ap (λ (x : Common D). b.faults x.store h) is.locks)) (come.faults h);
+  last = λ h. subst (λ n. b.last_fault c.store h ≤ n) (sym (ap (λ (x : Common D). b.last_fault x.store h) is.locks)) (come.last h);
+  count = subst (λ n. (n ≡ b.count c.store) ⊎ CountsOne (b.count c.store) n) (sym (ap (λ (x : Common D). b.count x.store) is.locks)) come.count;
+  rest = λ told rest. same_rest b mid.store new.store (ap (λ (x : Common D). x.store) is.locks) told (come.rest told rest);
+  few = come.few;
+  client = ap (λ (x : Course). x.client) is.only ∙ come.client;
+  replies = ap (λ (x : Course). x.replies) is.only ∙ come.replies;
+  held = ap (λ (x : Course). x.held) is.only ∙ come.held;
+  stage = ap (λ (x : Course). x.stage) is.only ∙ come.stage;
+  drafts = cleared_safe (b.size c.store) u.drafts is.cleared;
+}
+
 ending_short : (k : ℕ) (line : Line) (b : Bool) → length (ending k line b) ≤ 2
 ending_short k line false = omega arith
 ending_short k line true = omega arith
@@ -163,15 +198,22 @@ same_end : (script : ScriptValue) (s t : Course) (n : ℕ) → t.replies ≡ s.r
 same_end script s t zero same = refl
 same_end script s t (suc n) same = ap (λ (r : RepliesValue). length r.items + 1 == length script.lines) same
 
-pub cleared_safe : (size : ℕ) (set : PoolSet) → IsCleared set → AreSafeDrafts size set (roots_of set)
-cleared_safe size set cleared = subst (λ n. AreSafeDrafts size set n) (sym cleared.none) (cleared.count, cleared.fed)
-
 safe_left : (size : ℕ) (old new : PoolSet) (b : Bool) → AreLeft old new b → AreSafeDrafts size old (roots_of old) → AreSafeDrafts size new (roots_of new)
 safe_left size old new false same safe = subst (λ (x : PoolSet). AreSafeDrafts size x (roots_of x)) (sym same) safe
 safe_left size old new true cleared safe = cleared_safe size new cleared
 
-module _ {D : Type 0} (b : Ghosts D) (script : ScriptValue) (line : Line) (reply : LineReply) (es : List Entry) (c mid c' : Common D) (s t s' : Course)
-    (come : HasCome b es c mid s t) (is : IsAnswered script line reply mid c' t s') where
+-- what is shared with these entries noted, and perhaps the locks given up
+shares_ended : {D : Type 0} (c c' : Common D) (es : List Entry) (locks : List Lock) → EndsAlone c c' es locks → SharesOn c c' es c.map
+shares_ended {D} c c' es locks n = record {
+  entries = n.noted.entries;
+  doubt = n.noted.doubt;
+  map = ap (λ (x : Common D). x.map) n.only;
+  heads = ap (λ (x : Common D). x.heads.items) n.only;
+  table = ap (λ (x : Common D). x.table) n.only;
+}
+
+module _ {D : Type 0} (b : Ghosts D) (script : ScriptValue) (line : Line) (reply : LineReply) (es : List Entry) (gone : Bool) (c mid c' : Common D) (s t s' : Course)
+    (come : HasCome b es gone c mid s t) (is : IsAnswered script line reply mid c' t s') where
   ends : (k : Bool) → k ≡ gives_up script t (roots_of t.drafts) → ending t.client line (gives_up script t (roots_of t.drafts)) ≡ ending s.client line k
   ends k same = ap (λ n. ending n line (gives_up script t (roots_of t.drafts))) come.client ∙ ap (ending s.client line) (sym same)
 
@@ -189,7 +231,14 @@ module _ {D : Type 0} (b : Ghosts D) (script : ScriptValue) (line : Line) (reply
   shared =
       subst (λ xs. SharesOn c c' (es ++ xs) c.map) (ends at_end (sym end_same))
       (shares_trans c mid c' es (ending t.client line (gives_up script t (roots_of t.drafts))) c.map come.shares
-      (shares_noted mid c' (ending t.client line (gives_up script t (roots_of t.drafts))) is.noted))
+      (shares_ended mid c' (ending t.client line (gives_up script t (roots_of t.drafts))) _ is.noted))
+
+  -- the locks that stand then
+  pub ended_locks : c'.locks ≡ locks_left s.client c.locks (gone || at_end)
+  ended_locks =
+      ap (λ (x : Common D). x.locks) is.noted.only
+      ∙ ap (λ k. locks_left k mid.locks (gives_up script t (roots_of t.drafts))) come.client
+      ∙ ap (locks_left s.client mid.locks) end_same ∙ ap (λ ls. locks_left s.client ls at_end) come.locks ∙ left_twice s.client c.locks gone at_end
 
   -- so the line was answered
   pub come_answered : HasAnswered b reply (es ++ ending s.client line at_end) c c' s s'
@@ -240,31 +289,14 @@ own_is_open scene script s (Some u) own some = (u, refl)
 -- and one without has none
 pub own_is_none : (scene : Scene) (script : ScriptValue) (s : Course) (o : Option Update) → OwnsUpdate scene script s o → drafts_of s ≡ 0 → o ≡ None
 own_is_none scene script s None own none = refl
-own_is_none scene script s (Some u) own none = (let one = own.plain.drafts in absurd (omega (arith, one, none)))
+own_is_none scene script s (Some u) own none = (let some = own.within in absurd (omega (arith, some, none)))
 
-pub plain_same : (s s' : Course) (u : Update) (w : Work) → s'.drafts ≡ s.drafts → s'.rights ≡ s.rights → IsPlain s u w → IsPlain s' u w
-plain_same s s' u w same rights plain = record {
-  plain = plain.plain;
-  works = plain.works;
-  picked = plain.picked;
-  drafts = ap roots_of same ∙ plain.drafts;
-  count = plain.count ∙ sym (ap (λ (d : PoolSet). d.count) same);
-  rights = plain.rights ∙ sym rights;
-  object = ap (λ (d : PoolSet). object_in (base_at d 0)) same ∙ plain.object;
-}
-
--- what a client drafts stays so where its draft does, and every version is there again
-pub own_stays : (scene after : Scene) (script : ScriptValue) (s s' : Course) (o : Option Update) → KeepsVersions scene after → s'.drafts ≡ s.drafts → s'.rights ≡ s.rights → (drafts_of s ≡ 1 → HasFed script s → HasFed script s')
+-- what a client drafts stays so where its drafts do, and every version is there again
+pub own_stays : (scene after : Scene) (script : ScriptValue) (s s' : Course) (o : Option Update) → KeepsVersions scene after → s'.drafts ≡ s.drafts → s'.rights ≡ s.rights → (drafts_of s ≢ 0 → HasFed script s → HasFed script s')
     → OwnsUpdate scene script s o → OwnsUpdate after script s' o
 own_stays scene after script s s' None keeps same rights fed own = ap roots_of same ∙ own
-own_stays scene after script s s' (Some u) keeps same rights fed own = record {
-  work = own.work;
-  plain = plain_same s s' u own.work same rights own.plain;
-  serial = ap (λ (d : PoolSet). serial_in (base_at d 0)) same ∙ own.serial;
-  draft = draft_stays_own scene after own.work (root_of s') (view_of s') keeps
-      (subst (λ (d : PoolSet). HasDraft scene own.work (root_in (base_at d 0)) (view_at d 0)) (sym same) own.draft);
-  fed = fed own.plain.drafts own.fed;
-}
+own_stays scene after script s s' (Some u) keeps same rights fed own =
+    drafting_stays scene after script s s' u keeps same rights (fed (some_picked (picked_of s.drafts) (drafts_of s) own.within)) own
 
 -- as a line ends the client drafts what it drafted, or nothing
 pub own_left : (after : Scene) (script : ScriptValue) (old : PoolSet) (s' : Course) (c : Client) (b : Bool) → AreLeft old s'.drafts b → (s'.drafts ≡ old → OwnsUpdate after script s' c.update)

@@ -42,6 +42,7 @@ use Rattle.session.specs.declared.turned.Fault.{Fault}
 use Rattle.session.specs.declared.turned.Fault.TheVariants as fault
 use Rattle.session.specs.declared.turned.Turned.{Turned}
 use Rattle.session.specs.declared.turned.Turned.TheVariants as turned
+use Rattle.session.proofs.Drafting.{one_in}
 use Rattle.session.proofs.BlockLaws.{BlockLaws}
 use Rattle.session.proofs.Counting.{one_more_low}
 use Rattle.session.proofs.Deciding.{is_on, run_sound}
@@ -234,7 +235,7 @@ module _ {D : Type 0} (b : Ghosts D) (script : ScriptValue) (c c' : Common D) (s
         room = subst (λ (r : RepliesValue). length script.lines ≤ r.room) (sym course_is.replies) ready.safe.room;
         held = ap (λ k. held_count k c.map) course_is.client ∙ ready.safe.held ∙ sym course_is.held;
         drafts = subst (AreSafeDrafts (b.size c.store) s'.drafts) (sym begun.drafts)
-            (begun.picked, subst (λ n. n < b.size c.store) (sym begun.root) (within_store b IsVersionOf (IsNamingAt next) script c c' s next result laws ready read next_shown version was));
+            (one_in (b.size c.store) s'.drafts begun.picked (subst (λ n. n < b.size c.store) (sym begun.root) (within_store b IsVersionOf (IsNamingAt next) script c c' s next result laws ready read next_shown version was)));
         stage = subst (IsSafeStage (length c.map) s') (sym stage_is) begun.drafts;
       }
 

@@ -1,6 +1,7 @@
 -- A line that opens an update on the last version of a file.
-use Rattle.std.proofs.Common.{◌≡◌, inl, ℕ, ◌-◌, ◌<◌, false, List, [], ◌∷◌, ◌++◌, map, Some, None, Result, Ok, refl, sym, ap, ◌∙◌, subst}
-use Rattle.std.specs.Prelude.{IfSome}
+use Rattle.std.proofs.Common.{◌≡◌, inl, ℕ, zero, suc, ◌-◌, ◌<◌, false, ◌&&◌, List, [], ◌∷◌, ◌++◌, map, slice_get, Option, Some, None, Result, Ok, refl, sym, ap, ◌∙◌, subst, arith}
+use Rattle.std.specs.Prelude.{IfSome, nat_lt}
+use Rattle.std.specs.Option.{option_map_or}
 use Rattle.draft_model.specs.Stands.{Begins}
 use Rattle.draft_model.specs.Views.{View}
 use Rattle.page_codec.specs.Values.{VersionValue}
@@ -20,7 +21,7 @@ use Rattle.service_model.specs.declared.journal.What.TheVariants.{Answered, Bega
 use Rattle.service_model.specs.declared.named.Named.{Named}
 use Rattle.service_model.specs.Causes.{cause_of, object_of}
 use Rattle.service_model.specs.Entries.{bases_of, opened, work_on}
-use Rattle.service_model.specs.Standing.{Scripts, Update, client_of, serial_of}
+use Rattle.service_model.specs.Standing.{Scripts, Update, Work, client_of, has_file, serial_of}
 use Rattle.tree_model.specs.States.{State}
 use Rattle.ground_model.specs.Heads.{IsHeadOf}
 use Rattle.ground_model.specs.Lines.{Notes, answering, in_line}
@@ -37,7 +38,8 @@ use Rattle.ground_model.proofs.Shows.{base_shows}
 use Rattle.session.specs.Answers.{IsAnswered, IsAtCommand, NotesAlone}
 use Rattle.session.specs.Calls.{IsIn, IsReady, TurnCall}
 use Rattle.session.specs.Names.{IsGranted}
-use Rattle.session.specs.Own.{IsAtRest, OwnsUpdate}
+use Rattle.arrayvec.specs.ArrayVec.{ArrayVec}
+use Rattle.session.specs.Own.{IsAtRest, IsDraftOf, OwnsUpdate}
 use Rattle.session.specs.Reads.{IsVersionOf, ReadCall}
 use Rattle.session.specs.Safe.{AreSafeDrafts, drafts_of, line_of}
 use Rattle.session.specs.Shared.{RunStands}
@@ -127,6 +129,10 @@ pub record BeginsAt (new : PoolSet) (at : ℕ) (version : VersionValue) : Type 0
   pub count : new.count ≡ 0
   pub fed : new.fed ≡ 0
 
+-- The client knows these rights to its one file.
+abbrev pub KnowsRights : ArrayVec ℕ → ℕ → Type 0
+KnowsRights rights n = rights.items ≡ n ∷ []
+
 pub begins_at : (new : PoolSet) (at : ℕ) (version : VersionValue) → IsBegun new at version → BeginsAt new at version
 begins_at new at version is = record {
   roots = is.roots;
@@ -141,25 +147,25 @@ begins_at new at version is = record {
 
 module _ {D : Type 0} (b : Ghosts D) (script : ScriptValue) (c mid noted c' : Common D) (s s' : Course) (line : Line) (next : line_of script s ≡ Some line) (file : FileName)
     (command : line.command ≡ Begin file) (none : drafts_of s ≡ 0) (g : Granted) (granted : IsGranted c.table c.heads.items file g) (version : VersionValue)
-    (read : ReadCall b IsVersionOf c mid g.head.block (Ok version)) (new : PoolSet) (begun : BeginsAt new g.head.block version) where
+    (read : ReadCall b IsVersionOf c mid g.head.block (Ok version)) (new : PoolSet) (begun : BeginsAt new g.head.block version) (rights : ArrayVec ℕ) (knows : KnowsRights rights g.rights) where
   -- the course before the answer
   abbrev then : Course
-  then = record s { drafts = new; rights = g.rights }
+  then = record s { drafts = new; rights = rights }
 
   abbrev answer : LineReply
   answer = reply.Base (version.serial ∷ [])
 
   module _ (is : IsAnswered script line answer noted c' then s') where
-    module _ (told : b.tells) (opening : State) (scripts : Scripts) (first : ℕ) (scene : Scene)
-        (at : IsIn b IsAtRest script c s opening scripts first scene) where
+    module _ (told : b.tells) (opening : State) (scripts : Scripts) (first_moment : ℕ) (scene : Scene)
+        (at : IsIn b IsAtRest script c s opening scripts first_moment scene) where
       abbrev opens : Update
       opens = opened scene.standing.state (Begin file)
 
       of_object : version.object ≡ object_of file
-      of_object = object_is b opening scripts first scene c at.stands file g granted mid version read told
+      of_object = object_is b opening scripts first_moment scene c at.stands file g granted mid version read told
 
       of_serial : version.serial ≡ serial_of scene.standing.state (object_of file)
-      of_serial = serial_is b opening scripts first scene c at.stands file g granted mid version read told
+      of_serial = serial_is b opening scripts first_moment scene c at.stands file g granted mid version read told
 
       update_none : (client_of scene.standing s.client).update ≡ None
       update_none = own_is_none scene script s (client_of scene.standing s.client).update at.mine.update none
@@ -167,27 +173,33 @@ module _ {D : Type 0} (b : Ghosts D) (script : ScriptValue) (c mid noted c' : Co
       no_cause : cause_of scene.standing s.client (Begin file) ≡ None
       no_cause =
           begin_cause scene.standing s.client file update_none
-          ∙ allowed_has_no_cause c.table scene.standing.state file at.stands.seals granted.allowed (head_is b opening scripts first scene c at.stands file g granted).live
+          ∙ allowed_has_no_cause c.table scene.standing.state file at.stands.seals granted.allowed (head_is b opening scripts first_moment scene c at.stands file g granted).live
 
       own_opened : OwnsUpdate scene script then (Some opens)
       own_opened = record {
-        work = work_on scene.standing.state file;
-        plain = record {
-          plain = refl;
-          works = refl;
-          picked = refl;
-          drafts = begun.roots;
-          count = sym begun.count;
-          rights = sym granted.rights;
-          object = begun.object ∙ of_object;
-        };
-        serial = begun.serial ∙ of_serial;
-        draft = subst (λ n. HasDraft scene (work_on scene.standing.state file) n (view_at new 0)) (sym begun.block)
-            (draft_begins b opening scripts first scene c at.stands file g granted mid version read told (view_at new 0) begun.begins);
+        number = sym begun.roots;
+        several = ap (nat_lt 1) (sym begun.roots);
+        picked = sym begun.picked;
+        within = (let one = begun.roots in let picked = begun.picked in omega (arith, one, picked));
+        count = sym begun.count;
+        each = each;
         fed = inl begun.fed;
       }
+        where
+          first : IsDraftOf scene then 0 (work_on scene.standing.state file)
+          first = record {
+            rights = ap (λ (rs : List ℕ). slice_get rs 0) knows ∙ ap Some granted.rights;
+            object = begun.object ∙ of_object;
+            serial = begun.serial ∙ of_serial;
+            draft = subst (λ n. HasDraft scene (work_on scene.standing.state file) n (view_at new 0)) (sym begun.block)
+                (draft_begins b opening scripts first_moment scene c at.stands file g granted mid version read told (view_at new 0) begun.begins);
+          }
 
-      begin_ends : (moment : ℕ) → EndsIn scripts scene script s then s' line moment (in_line s.client line (Began (base_of version ∷ [])) ∷ []) answer
+          each : (i : ℕ) (w : Work) → slice_get opens.works i ≡ Some w → IsDraftOf scene then i w
+          each zero w is = (let same : work_on scene.standing.state file ≡ w = cc in subst (IsDraftOf scene then 0) same first)
+          each (suc i) w is = absurd (let wrong : None ≡ Some w = is in cc wrong)
+
+      begin_ends : (moment : ℕ) → EndsIn scripts scene script s then s' line moment (in_line s.client line (Began (base_of version ∷ [])) ∷ []) false answer
       begin_ends moment = record {
         client = answering (client_of scene.standing s.client) answer (Some opens);
         notes = begun_notes scripts scene script s at.mine line next file command no_cause version of_object of_serial;
@@ -195,13 +207,13 @@ module _ {D : Type 0} (b : Ghosts D) (script : ScriptValue) (c mid noted c' : Co
           answers = ap (λ (rs : List LineReply). rs ++ answer ∷ []) at.mine.seated.answers;
           noted = refl;
           held = at.mine.held;
-          plain = λ v same. (let mine : opens ≡ v = cc in subst (λ (x : Update). x.is_super ≡ false) mine refl);
         };
         open_is = λ some. (opens, refl);
+        locks = λ object. sym (ap (λ (o : Option Update). option_map_or (λ (x : Update). x.is_super && has_file object x) o false) update_none);
         of_client = one_of scripts scene.standing s.client line (Began (base_of version ∷ [])) refl;
         moments = untimed_are_of_turn moment (in_line s.client line (Began (base_of version ∷ [])) ∷ []) refl;
         update = λ after keeps same. own_stays scene after script then s' (Some opens) keeps same (ap (λ (x : Course). x.rights) is.only)
-            (λ one fed. inl (ap (λ (d : PoolSet). d.fed) same ∙ begun.fed)) own_opened;
+            (λ some fed. inl (ap (λ (d : PoolSet). d.fed) same ∙ begun.fed)) own_opened;
       }
 
     module _ (ready : IsReady b script c s) (note : NotesAlone mid noted (in_line s.client line (Began (base_of version ∷ [])) ∷ [])) where
@@ -214,10 +226,13 @@ module _ {D : Type 0} (b : Ghosts D) (script : ScriptValue) (c mid noted c' : Co
         replies = refl;
         held = refl;
         stage = ready.stage;
-        drafts = subst (λ n. AreSafeDrafts (b.size c.store) new n) (sym begun.roots) (begun.picked, subst (λ n. n < b.size c.store) (sym begun.block) low);
+        drafts = subst (λ n. AreSafeDrafts (b.size c.store) new n) (sym begun.roots) (record {
+          picked = (let picked = begun.picked in omega (arith, picked));
+          bases = λ i below. subst (λ k. root_in (base_at new k) < b.size c.store) {x = 0} {y = i} (omega (arith, below)) (subst (λ n. n < b.size c.store) (sym begun.block) low);
+        });
       }
 
-      come : HasCome b (in_line s.client line (Began (base_of version ∷ [])) ∷ []) c noted s then
+      come : HasCome b (in_line s.client line (Began (base_of version ∷ [])) ∷ []) false c noted s then
       come = come_noted b (in_line s.client line (Began (base_of version ∷ []))) c mid noted s then (come_read b c mid s then read.alone read.one read.rest may) note
 
       same_store : c'.store ≡ mid.store
@@ -226,7 +241,7 @@ module _ {D : Type 0} (b : Ghosts D) (script : ScriptValue) (c mid noted c' : Co
       pub begin_call : (b.tells → LineTurnStands b) → (result : Turned) → result ≡ turned.Line line.number
           → TurnCall b IsAtRest script c c' s s' result
       begin_call laws result said =
-          line_ended b laws script c noted c' s then s' line next ready (in_line s.client line (Began (base_of version ∷ [])) ∷ []) answer come is result said
+          line_ended b laws script c noted c' s then s' line next ready (in_line s.client line (Began (base_of version ∷ [])) ∷ []) false answer come is result said
           (λ told. subst (λ (d : D). IsRead b c.store d) (sym same_store) (read.read told))
           (λ told opening scripts first scene at. begin_ends told opening scripts first scene at (b.moment c'.store))
 
@@ -239,17 +254,17 @@ pub record IsOfVersion (version : VersionValue) (bases : List Named) (serials : 
   pub its_bases : bases ≡ base_of version ∷ []
   pub its_serials : serials ≡ version.serial ∷ []
 
-module _ {D : Type 0} (b : Ghosts D) (script : ScriptValue) (c mid noted c' : Common D) (s s' : Course) (file : FileName) (g : Granted) (version : VersionValue) (new : PoolSet)
+module _ {D : Type 0} (b : Ghosts D) (script : ScriptValue) (c mid noted c' : Common D) (s s' : Course) (file : FileName) (g : Granted) (version : VersionValue) (new : PoolSet) (rights : ArrayVec ℕ)
     (bases : List Named) (serials : List ℕ) (of : IsOfVersion version bases serials) where
   pub begin_turn : (b.tells → LineTurnStands b) → IsReady b script c s → IsAtCommand script s (Begin file)
-      → drafts_of s ≡ 0 → IsGranted c.table c.heads.items file g → ReadCall b IsVersionOf c mid g.head.block (Ok version) → BeginsAt new g.head.block version
+      → drafts_of s ≡ 0 → IsGranted c.table c.heads.items file g → ReadCall b IsVersionOf c mid g.head.block (Ok version) → BeginsAt new g.head.block version → KnowsRights rights g.rights
       → IfSome (line_of script s) (λ line. NotesAlone mid noted (in_line s.client line (Began bases) ∷ []))
-      → IfSome (line_of script s) (λ line. IsAnswered script line (reply.Base serials) noted c' (record s { drafts = new; rights = g.rights }) s')
+      → IfSome (line_of script s) (λ line. IsAnswered script line (reply.Base serials) noted c' (record s { drafts = new; rights = rights }) s')
       → (result : Turned) → IfSome (line_of script s) (λ line. result ≡ turned.Line line.number) → TurnCall b IsAtRest script c c' s s' result
-  begin_turn laws ready command none granted read begun notes answered result said =
-      let t : Course = record s { drafts = new; rights = g.rights } in
+  begin_turn laws ready command none granted read begun knows notes answered result said =
+      let t : Course = record s { drafts = new; rights = rights } in
       let line : Line = command.line in
-      begin_call b script c mid noted c' s s' line command.next file command.is none g granted version read new begun
+      begin_call b script c mid noted c' s s' line command.next file command.is none g granted version read new begun rights knows
       (subst (λ (ns : List ℕ). IsAnswered script line (reply.Base ns) noted c' t s') of.its_serials
       (for_line (line_of script s) (λ l. IsAnswered script l (reply.Base serials) noted c' t s') line command.next answered))
       ready

@@ -24,12 +24,12 @@ use Rattle.ground_model.specs.Runs.{IsRead}
 use Rattle.ground_model.specs.Scenes.{Scene, IsLinking}
 use Rattle.ground_model.specs.Steps.{moved_to}
 use Rattle.ground_model.proofs.Lines.{became}
-use Rattle.session.specs.Answers.{AreLeft, IsAnswered, IsCleared, NotesAlone, ending, gives_up}
+use Rattle.session.specs.Answers.{AreLeft, EndsAlone, IsAnswered, IsCleared, NotesAlone, ending, gives_up, locks_left}
 use Rattle.session.specs.Calls.{IsIn, IsReady, KeepsNumbers, KeepsRoom, Own, TurnCall}
 use Rattle.session.specs.Ends.{AreOf, GoesTo, TurnGoes}
 use Rattle.session.specs.Own.{IsAtRest, IsSeated, OwnsStage, OwnsUpdate}
 use Rattle.session.specs.Safe.{AreSafeDrafts, IsSafe, IsSafeStage, drafts_of, line_of, noted_for}
-use Rattle.session.specs.Shared.{RunStands, entries_of}
+use Rattle.session.specs.Shared.{AreLocksIn, RunStands, entries_of}
 use Rattle.session.specs.Values.{IsNoted, entries_in}
 use Rattle.session.specs.declared.common.Common.{Common}
 use Rattle.session.specs.declared.course.Course.{Course}
@@ -39,7 +39,7 @@ use Rattle.session.specs.declared.turned.Turned.{Turned}
 use Rattle.session.specs.declared.turned.Turned.TheVariants as turned
 use Rattle.session.proofs.BlockLaws.{BlockLaws}
 use Rattle.session.proofs.Counting.{same_rest}
-use Rattle.session.proofs.Going.{SharesOn, goes_line, seated_on, turn_goes}
+use Rattle.session.proofs.Going.{SharesOn, goes_line, locks_kept, seated_on, turn_goes}
 
 -- ---- what the code did
 
@@ -61,6 +61,10 @@ noted_twice old mid new es fs one two = record {
 pub some_here : {A : Type 0} (P : A → Type 0) (o : Option A) (x : A) → IfSome o P → o ≡ Some x → P x
 some_here P o x holds is = subst (λ (q : Option _). IfSome q P) is holds
 
+-- where the locks are the same, entries were noted and nothing else
+pub ends_notes : {D : Type 0} (c c' : Common D) (es : List Entry) → EndsAlone c c' es c.locks → NotesAlone c c' es
+ends_notes c c' es n = record { only = n.only; noted = n.noted }
+
 -- a line that notes something, lets the drafts go and is answered
 pub over_by : {D : Type 0} (script : ScriptValue) (line : Line) (said : What) (reply : LineReply) (states : List BlockState) (n : ℕ) (c d e c' : Common D) (s t u s' : Course)
     → line_of script s ≡ Some line → d ≡ record c { map = states } → t ≡ record s { held = n }
@@ -81,7 +85,7 @@ over_by {D} script line said reply states n c d e c' s t u s' next d_is t_is not
     over one two =
         let left : s'.drafts ≡ u.drafts = subst (AreLeft u.drafts s'.drafts) none two.drafts in
         let ends : NotesAlone e c' (in_line s.client line Answered ∷ []) =
-        subst (λ (k : ℕ). NotesAlone e c' (in_line k line Answered ∷ [])) client (subst (λ (b : Bool). NotesAlone e c' (ending u.client line b)) none two.noted) in
+        subst (λ (k : ℕ). NotesAlone e c' (in_line k line Answered ∷ [])) client (ends_notes e c' (ending u.client line false) (subst (λ (b : Bool). EndsAlone e c' (ending u.client line b) (locks_left u.client e.locks b)) none two.noted)) in
         let first : NotesAlone d e (in_line s.client line said ∷ []) = subst (λ (k : ℕ). NotesAlone d e (in_line k line said ∷ [])) (ap (λ (x : Course). x.client) t_is) one in
         record {
           next = next;
@@ -188,7 +192,6 @@ module _ {D : Type 0} (b : Ghosts D) (script : ScriptValue) (line : Line) (said 
     map = map_now;
     heads = ap (λ (x : Common D). x.heads.items) over.only;
     table = ap (λ (x : Common D). x.table) over.only;
-    locks = ap (λ (x : Common D). x.locks) over.only;
   }
 
   -- What is known of the entries and of the client in a scene.
@@ -238,6 +241,11 @@ module _ {D : Type 0} (b : Ghosts D) (script : ScriptValue) (line : Line) (said 
     unlocked : (object : ℕ) → has_locked object client ≡ has_locked object (client_of scene.standing s.client)
     unlocked object = ap (λ (o : Option Update). option_map_or (λ u. u.is_super && has_file object u) o false) ends.no_update ∙ sym (ends.plain object)
 
+    locks_then : AreLocksIn standing c'.locks
+    locks_then =
+        locks_kept scripts s.client scene es client ends.seated.client.low ends.notes.becomes ends.seated.client c.locks c'.locks st.locks
+        (ap (λ (x : Common D). x.locks) over.only) unlocked
+
     goes_over : GoesTo b opening scripts first scene (moved_to scene (b.content c'.store) states standing) c c' s.client es
     goes_over =
         goes_line b laws.lines opening scripts first s.client scene c c' es client states st
@@ -248,7 +256,7 @@ module _ {D : Type 0} (b : Ghosts D) (script : ScriptValue) (line : Line) (said 
           map = ends.map;
           read = subst (λ (d : D). IsRead b c.store d) (sym same_store) (laws.calm c.store);
           moments = ends.moments;
-        }) shares unlocked of_client
+        }) shares locks_then of_client
 
     pub over_goes : TurnGoes b opening scripts first scene c c' script s'
     over_goes =

@@ -72,7 +72,7 @@ module _ {D : Type 0} (b : Ghosts D) (laws : b.tells → BlockLaws b) (script : 
     goes : GoesTo b opening scripts first scene after c c1 s.client []
     goes =
         goes_read b (laws told).lines opening scripts first s.client scene c c1 is.stands m.committing.seated.client (sets_none scripts scene script s m.update m.work m.committing) read
-        (shares_read b c c1 t.tried.alone)
+        (shares_read b c c1 t.tried.alone) (ap (λ (x : Common D). x.locks) t.tried.alone.only)
 
     -- a turn for each page that was written, as many as it holds blocks, and this one
     fits : one_more s.turns ≤ turns_to scene.standing.made s.held m.work (serial_of s) + (1 + s.held)

@@ -48,7 +48,7 @@ module _ (scripts : Scripts) (scene : Scene) (script : ScriptValue) (s : Course)
   seated h = record { client = h.client; its_script = h.its_script; answers = h.answers; idle = h.idle }
 
   plain : (u : Update) (w : Work) → IsPlain s u w → IsPlain (with_stage s d) u w
-  plain u w h = record { plain = h.plain; works = h.works; picked = h.picked; drafts = h.drafts; count = h.count; rights = h.rights; object = h.object }
+  plain u w h = record { plain = h.plain; works = h.works; picked = h.picked; drafts = h.drafts; count = h.count; object = h.object }
 
   has_fed : HasFed script s → HasFed script (with_stage s d)
   has_fed (inl none) = inl none
@@ -56,7 +56,15 @@ module _ (scripts : Scripts) (scene : Scene) (script : ScriptValue) (s : Course)
 
   updating : (u : Option Update) → OwnsUpdate scene script s u → OwnsUpdate scene script (with_stage s d) u
   updating None h = h
-  updating (Some u) h = record { work = h.work; plain = plain u h.work h.plain; serial = h.serial; draft = h.draft; fed = has_fed h.fed }
+  updating (Some u) h = record {
+    number = h.number;
+    several = h.several;
+    picked = h.picked;
+    within = h.within;
+    count = h.count;
+    each = λ i w is. (let own = h.each i w is in record { rights = own.rights; object = own.object; serial = own.serial; draft = own.draft });
+    fed = has_fed h.fed;
+  }
 
   pub resting_own : IsAtRest scripts scene script s → IsAtRest scripts scene script (with_stage s d)
   resting_own h = record {

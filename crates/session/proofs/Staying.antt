@@ -82,7 +82,6 @@ module _ (scripts : Scripts) (scene : Scene) (script : ScriptValue) (s : Course)
         picked = co.plain.picked;
         drafts = co.plain.drafts;
         count = co.plain.count;
-        rights = co.plain.rights;
         object = co.plain.object;
       };
       line = co.line;

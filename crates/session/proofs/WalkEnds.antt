@@ -25,6 +25,7 @@ use Rattle.session.specs.Values.{RepliesValue}
 use Rattle.session.specs.Walks.{HasSettled, IsSameDraft}
 use Rattle.session.specs.declared.common.Common.{Common}
 use Rattle.session.specs.declared.course.Course.{Course}
+use Rattle.session.proofs.Drafting.{one_in}
 use Rattle.session.proofs.Calling.{drafts_move}
 use Rattle.session.proofs.Deciding.{run_sound}
 use Rattle.session.proofs.Drafts.{has_draft_in}
@@ -58,7 +59,7 @@ module _ {D : Type 0} (b : Ghosts D) (script : ScriptValue) (c : Common D) (s s'
     room = subst (λ (r : RepliesValue). length script.lines ≤ r.room) (sym beside.replies) ready.safe.room;
     held = ap (λ k. held_count k c.map) beside.client ∙ ready.safe.held ∙ sym beside.held;
     drafts = subst (AreSafeDrafts (b.size c.store) s'.drafts) (sym same.one)
-        (same.picked, subst (λ n. n < b.size c.store) (sym same.root) (has_draft_in b script c s ready one).base);
+        (one_in (b.size c.store) s'.drafts same.picked (subst (λ n. n < b.size c.store) (sym same.root) (has_draft_in b script c s ready one).base));
     stage = subst (IsSafeStage (length c.map) s') (sym (beside.stage ∙ ready.stage)) tt;
   }
 

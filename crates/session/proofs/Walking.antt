@@ -57,7 +57,6 @@ committing_then scripts scene script s s' u w k co = record {
     picked = co.plain.picked;
     drafts = k.one;
     count = co.plain.count ∙ sym k.count;
-    rights = co.plain.rights ∙ sym k.rights;
     object = k.object ∙ co.plain.object;
   };
   line = co.line;
@@ -170,5 +169,5 @@ module _ {D : Type 0} (b : Ghosts D) (laws : BlockLaws b) (opening : State) (scr
   pub under_way_goes : TurnGoes b opening scripts first scene c c' script s'
   under_way_goes =
       turn_goes b opening scripts first scene scene_then c c' script s' s'.client [] refl
-      (goes_read b laws.lines opening scripts first s'.client scene c c' st commits.committing.seated.client links read (shares_read b c c' alone))
+      (goes_read b laws.lines opening scripts first s'.client scene c c' st commits.committing.seated.client links read (shares_read b c c' alone) (ap (λ (x : Common D). x.locks) alone.only))
       (record { moments = refl; one = omega arith }) (then_owns mine)

@@ -11,7 +11,6 @@ use Rattle.page_codec.specs.Values.{TableValue}
 use Rattle.pair_store.specs.declared.store.Blocks.{Ghosts}
 use Rattle.script_text.specs.ScriptValue.{ScriptValue}
 use Rattle.service_model.specs.Standing.{Scripts, Client, client_of}
-use Rattle.super_files.specs.Locks.{Holds}
 use Rattle.super_files.specs.declared.locks.Lock.{Lock}
 use Rattle.tree_model.specs.States.{State}
 use Rattle.version_chain.specs.Flush.{GivesNext, Plan, StartsAtRoot, base_of}
@@ -32,7 +31,7 @@ use Rattle.session.specs.Ends.{GoesTo}
 use Rattle.session.specs.Own.{IsMergedIn, IsWritingBy, IsWritingOut}
 use Rattle.session.specs.Reads.{StoreAlone, WriteCall}
 use Rattle.session.specs.Safe.{AreSafeDrafts, IsSafe, IsSafeFlush, IsSafeStage, drafts_of, object_of, root_of, serial_of, view_of}
-use Rattle.session.specs.Shared.{RunStands, entries_of}
+use Rattle.session.specs.Shared.{AreLocksIn, RunStands, entries_of}
 use Rattle.session.specs.Values.{one_more}
 use Rattle.session.specs.declared.common.Common.{Common}
 use Rattle.session.specs.declared.course.Course.{Course}
@@ -59,10 +58,10 @@ turn_within (y ∷ placed) k x at =
 
 -- the run stands where the store stands, if the client's turn noted nothing and left all else
 pub goes_nothing : {D : Type 0} (b : Ghosts D) (opening : State) (scripts : Scripts) (first k : ℕ) (scene : Scene) (c c' : Common D) → RunStands b opening scripts first scene c
-    → SharesOn c c' [] c.map → Stands b opening scripts first (moved_to scene (b.content c'.store) scene.states scene.standing) c'.store (entries_of c ++ [])
+    → SharesOn c c' [] c.map → c'.locks ≡ c.locks → Stands b opening scripts first (moved_to scene (b.content c'.store) scene.states scene.standing) c'.store (entries_of c ++ [])
     → LeavesOthers k scene (moved_to scene (b.content c'.store) scene.states scene.standing)
     → GoesTo b opening scripts first scene (moved_to scene (b.content c'.store) scene.states scene.standing) c c' k []
-goes_nothing b opening scripts first k scene c c' st shares stands others = record {
+goes_nothing b opening scripts first k scene c c' st shares same stands others = record {
   entries = shares.entries;
   of_client = of_none scripts scene.standing k;
   leads = refl;
@@ -72,10 +71,7 @@ goes_nothing b opening scripts first k scene c c' st shares stands others = reco
     map = shares.map ∙ st.map;
     heads = shares.heads ∙ st.heads;
     seals = λ object. ap (λ (t : TableValue). seal_of t object) shares.table ∙ st.seals object;
-    locks = λ j object low. (
-      λ holds. (st.locks j object low).0 (subst (λ (ls : List Lock). Holds j object ls) shares.locks holds),
-      λ has. subst (λ (ls : List Lock). Holds j object ls) (sym shares.locks) ((st.locks j object low).1 has),
-    );
+    locks = subst (λ (ls : List Lock). AreLocksIn scene.standing ls) (sym same) st.locks;
   };
   others = others;
 }
@@ -122,7 +118,7 @@ module _ {D : Type 0} (b : Ghosts D) (laws : b.tells → BlockLaws b) (script : 
       both = (laws told).writes opening scripts first s.client scene c.store c'.store (entries_of c) [] own scene.states at bytes is.stands.stands turn
 
       pub write_goes : GoesTo b opening scripts first scene after c c' s.client []
-      write_goes = goes_nothing b opening scripts first s.client scene c c' is.stands (shares_read b c c' alone) both.0 both.1.leaves
+      write_goes = goes_nothing b opening scripts first s.client scene c c' is.stands (shares_read b c c' alone) (ap (λ (x : Common D). x.locks) alone.only) both.0 both.1.leaves
 
       pub write_own : GivesNext (view_of s) (base_of (root_of s) (object_of s) (serial_of s)) flush more at bytes
           → IsWritingOut scripts after script (course_with s s.held (stage.Writing more) (one_more s.turns)) more

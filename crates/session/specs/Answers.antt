@@ -18,6 +18,8 @@ use Rattle.service_model.specs.Order.{IsDue}
 use Rattle.service_model.specs.Standing.{Scripts}
 use Rattle.ground_model.specs.Lines.{in_line}
 use Rattle.ground_model.specs.Scenes.{Scene}
+use Rattle.super_files.specs.Locks.{without}
+use Rattle.super_files.specs.declared.locks.Lock.{Lock}
 use Rattle.session.specs.Calls.{IsIn}
 use Rattle.session.specs.Own.{IsAtRest, IsCommitting}
 use Rattle.session.specs.Safe.{line_of}
@@ -49,6 +51,17 @@ abbrev pub ending : ℕ → Line → Bool → List Entry
 ending k line false = in_line k line Answered ∷ []
 ending k line true = in_line k line Answered ∷ in_line k line GivenUp ∷ []
 
+-- An update ended or not: with it go the locks of its client.
+abbrev pub locks_left : ℕ → List Lock → Bool → List Lock
+locks_left k locks false = locks
+locks_left k locks true = without k locks
+
+-- These entries were noted, and these locks stand; nothing else of what is shared changed.
+pub record EndsAlone {D : Type 0} (c c' : Common D) (es : List Entry)
+    (locks : List Lock) : Type 0 where
+  pub only : c' ≡ record c { log = c'.log; locks = locks }
+  pub noted : IsNoted c.log c'.log es
+
 -- A set without drafts.
 pub record IsCleared (set : PoolSet) : Type 0 where
   pub none : roots_of set ≡ 0
@@ -60,10 +73,17 @@ abbrev pub AreLeft : PoolSet → PoolSet → Bool → Type 0
 AreLeft old new false = new ≡ old
 AreLeft old new true = IsCleared new
 
+-- The drafts were let go of, and the locks of the client: nothing else changed.
+pub record LetsGo {D : Type 0} (c c' : Common D) (s s' : Course) : Type 0 where
+  pub locks : c' ≡ record c { locks = without s.client c.locks }
+  pub only : s' ≡ record s { drafts = s'.drafts }
+  pub cleared : IsCleared s'.drafts
+
 -- The next line was answered so, and a client whose last line that is gave up its update.
 pub record IsAnswered {D : Type 0} (script : ScriptValue) (line : Line) (reply : LineReply)
     (c c' : Common D) (s s' : Course) : Type 0 where
-  pub noted : NotesAlone c c' (ending s.client line (gives_up script s (roots_of s.drafts)))
+  pub noted : EndsAlone c c' (ending s.client line (gives_up script s (roots_of s.drafts)))
+      (locks_left s.client c.locks (gives_up script s (roots_of s.drafts)))
   pub drafts : AreLeft s.drafts s'.drafts (gives_up script s (roots_of s.drafts))
   pub only : s' ≡ record s {
     replies = record s.replies { items = s.replies.items ++ reply ∷ [] };

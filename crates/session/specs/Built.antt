@@ -10,7 +10,7 @@ use Rattle.script_text.specs.declared.script.Line.{Line}
 abbrev pub is_built : Command → Bool
 is_built (Begin file) = true
 is_built (Super files) = false
-is_built (Pick place) = false
+is_built (Pick place) = true
 is_built (Do step) = true
 is_built Commit = true
 is_built Abandon = true

@@ -1,5 +1,5 @@
 -- What a turn of one client leaves the others of their own.
-use Rattle.std.specs.Prelude.{◌≡◌, ◌≢◌, ℕ, ◌≤◌, List, [], ◌∷◌}
+use Rattle.std.specs.Prelude.{◌≡◌, ◌≢◌, ℕ, ◌≤◌, List, length}
 use Rattle.block_map.specs.declared.states.BlockState.{BlockState}
 use Rattle.ground_model.specs.Bounds.{line_bound}
 use Rattle.ground_model.specs.Scenes.{Scene}
@@ -7,7 +7,7 @@ use Rattle.pair_store.specs.declared.store.Blocks.{Ghosts}
 use Rattle.script_text.specs.ScriptValue.{ScriptValue}
 use Rattle.service_model.specs.declared.journal.Entry.{Entry}
 use Rattle.service_model.specs.Sound.{AreSayable, IsOpenAt, IsSound}
-use Rattle.service_model.specs.Standing.{Scripts, Update, Work}
+use Rattle.service_model.specs.Standing.{Scripts, Update}
 use Rattle.play_order.specs.Orders.{IsBetween}
 use Rattle.session.specs.declared.stage.Stage.TheVariants.{Resting}
 use Rattle.tree_model.specs.States.{State}
@@ -51,9 +51,10 @@ RestIsBetween =
     → s.stage ≡ Resting → IsOwn scripts scene script s
     → IsBetween scripts scene.standing s.client
 
--- An open update of a client is of one file.
-abbrev pub UpdateIsPlain : Type 0
-UpdateIsPlain =
-    (scripts : Scripts) (scene : Scene) (script : ScriptValue) (s : Course)
-    → IsOwn scripts scene script s → (u : Update) → IsOpenAt scene.standing s.client u
-    → (w : Work) × (u.works ≡ w ∷ [])
+-- An open update of a client is of at most seventeen files.
+abbrev pub UpdateIsSmall : Type 0
+UpdateIsSmall =
+    (size : ℕ) (map : List BlockState) (scripts : Scripts) (scene : Scene) (script : ScriptValue)
+    (s : Course)
+    → IsSafe size map script s → IsOwn scripts scene script s
+    → (u : Update) → IsOpenAt scene.standing s.client u → length u.works ≤ 17

@@ -1,6 +1,6 @@
 -- What a client has of its own between two turns.
 use Rattle.std.specs.Prelude.{◌≡◌, ◌≢◌, ◌⊎◌, ℕ, zero, suc, ◌-◌, ◌+◌, ◌<◌, ◌≤◌, ◌^◌, true, false}
-use Rattle.std.specs.Prelude.{List, [], ◌∷◌, length, Option, Some, None, slice_get}
+use Rattle.std.specs.Prelude.{List, [], ◌∷◌, length, nat_lt, Option, Some, None, slice_get}
 use Rattle.caps.specs.Grant.{has_rights}
 use Rattle.draft_model.specs.Views.{View, Wants, copies}
 use Rattle.ground_model.specs.Ahead.{IsWalking}
@@ -14,6 +14,9 @@ use Rattle.script_text.specs.declared.script.Line.{Line}
 use Rattle.service_model.specs.Causes.{right_for}
 use Rattle.service_model.specs.Standing.{Scripts, Update, Upkeep, Work, Made, client_of}
 use Rattle.service_model.specs.Standing.{has_writes, locked_by, need, serial_of as last_serial}
+use Rattle.service_model.specs.Standing.{step_count}
+use Rattle.pool_draft.specs.Roots.{object_in, root_in, serial_in}
+use Rattle.pool_draft.specs.Sets.{base_at, picked_of, view_at}
 use Rattle.service_model.specs.Legal.{IsFirstClash}
 use Rattle.tree_model.specs.Accesses.{Place}
 use Rattle.service_model.specs.declared.journal.What.{What}
@@ -22,7 +25,8 @@ use Rattle.tree_model.specs.Accesses.{end_of}
 use Rattle.tree_model.specs.Trees.{Tree}
 use Rattle.tree_model.specs.declared.step.Step.{Step}
 use Rattle.version_chain.specs.Flush.{Plan, StartsAtRoot, base_of}
-use Rattle.session.specs.Safe.{drafts_of, line_of, object_of, root_of, serial_of, view_of}
+use Rattle.session.specs.Safe.{drafts_of, line_of, object_of, picked_view, rights_of, root_of}
+use Rattle.session.specs.Safe.{serial_of, view_of}
 use Rattle.session.specs.declared.course.Course.{Course}
 use Rattle.session.specs.declared.stage.Stage.{Stage}
 use Rattle.session.specs.declared.stage.Stage.TheVariants.{Resting, Naming, Walking, Writing}
@@ -40,15 +44,13 @@ pub record IsSeated (scripts : Scripts) (scene : Scene) (script : ScriptValue)
 
 -- ---- its update
 
--- The update is of one file, and no update of several; the client has one draft, with as many steps,
--- and knows the rights to the file.
+-- The update is of one file, and no update of several; the client has one draft, with as many steps.
 pub record IsPlain (s : Course) (u : Update) (w : Work) : Type 0 where
   pub plain : u.is_super ≡ false
   pub works : u.works ≡ w ∷ []
   pub picked : u.picked ≡ 0
   pub drafts : drafts_of s ≡ 1
   pub count : length w.steps ≡ s.drafts.count
-  pub rights : w.rights ≡ s.rights
   pub object : object_of s ≡ w.object
 
 -- The pages that were fed for a step are fewer than the slots on the way to each page that it wants,
@@ -63,21 +65,32 @@ pub record IsFeeding (script : ScriptValue) (s : Course) : Type 0 where
   pub step : Step
   pub next : line_of script s ≡ Some line
   pub command : line.command ≡ Do step
-  pub rights : has_rights s.rights (right_for step) ≡ true
+  pub rights : has_rights (rights_of s) (right_for step) ≡ true
   pub few : s.drafts.count < 128
-  pub way : IsOnItsWay (view_of s) (end_of step) s.drafts.fed
+  pub way : IsOnItsWay (picked_view s) (end_of step) s.drafts.fed
 
 -- No page was fed since the last step, or only for the next one.
 abbrev pub HasFed : ScriptValue → Course → Type 0
 HasFed script s = (s.drafts.fed ≡ 0) ⊎ IsFeeding script s
 
--- The draft of an update between two lines is that of its steps on its base.
+-- The draft with this number is that of the steps on one file of an update, on its base; and the
+-- client knows the rights to the file.
+pub record IsDraftOf (scene : Scene) (s : Course) (i : ℕ) (w : Work) : Type 0 where
+  pub rights : slice_get s.rights.items i ≡ Some w.rights
+  pub object : object_in (base_at s.drafts i) ≡ w.object
+  pub serial : serial_in (base_at s.drafts i) ≡ w.serial
+  pub draft : HasDraft scene w (root_in (base_at s.drafts i)) (view_at s.drafts i)
+
+-- The client has a draft for each file of its update, with as many steps in all, and steps go to the
+-- one that is picked. An update of several files is one that has more than one.
 pub record IsDrafting (scene : Scene) (script : ScriptValue) (s : Course)
     (u : Update) : Type 0 where
-  pub work : Work
-  pub plain : IsPlain s u work
-  pub serial : serial_of s ≡ work.serial
-  pub draft : HasDraft scene work (root_of s) (view_of s)
+  pub number : length u.works ≡ drafts_of s
+  pub several : u.is_super ≡ nat_lt 1 (drafts_of s)
+  pub picked : u.picked ≡ picked_of s.drafts
+  pub within : picked_of s.drafts < drafts_of s
+  pub count : step_count u ≡ s.drafts.count
+  pub each : (i : ℕ) (w : Work) → slice_get u.works i ≡ Some w → IsDraftOf scene s i w
   pub fed : HasFed script s
 
 -- A client has a draft exactly where its update is open.

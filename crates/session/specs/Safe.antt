@@ -2,6 +2,7 @@
 -- numbers alone.
 use Rattle.std.specs.Prelude.{◌≡◌, ℕ, zero, suc, ◌-◌, ◌*◌, ◌+◌, ◌<◌, ◌≤◌, ◌^◌, List, length}
 use Rattle.std.specs.Prelude.{Option, Some, slice_get}
+use Rattle.std.specs.Option.{option_map_or}
 use Rattle.afs_base.specs.declared.head.Head.{Head}
 use Rattle.block_map.specs.States.{held_count}
 use Rattle.block_map.specs.declared.states.BlockState.{BlockState}
@@ -33,7 +34,14 @@ object_of s = object_in (base_at s.drafts 0)
 abbrev pub serial_of : Course → ℕ
 serial_of s = serial_in (base_at s.drafts 0)
 
--- How many drafts a client has: one where an update is open, and none else.
+-- What the draft shows that steps go to, and the rights to its file.
+abbrev pub picked_view : Course → View
+picked_view s = view_at s.drafts (picked_of s.drafts)
+
+abbrev pub rights_of : Course → ℕ
+rights_of s = option_map_or (λ (n : ℕ). n) (slice_get s.rights.items (picked_of s.drafts)) 0
+
+-- How many drafts a client has: one for each file of the update that is open.
 abbrev pub drafts_of : Course → ℕ
 drafts_of s = roots_of s.drafts
 
@@ -47,11 +55,15 @@ pub record IsSafeStore {D : Type 0} (size : D → ℕ) (c : Common D) : Type 0 w
       → 0 < head.block
   pub map : length c.map ≤ size c.store
 
--- A client has one draft, which is picked and whose base is in the store; or it has none, and no
--- step was done.
+-- Drafts, one of which is picked, and whose bases are in the store.
+pub record AreDraftsIn (size : ℕ) (set : PoolSet) (n : ℕ) : Type 0 where
+  pub picked : picked_of set < n
+  pub bases : (i : ℕ) → i < n → root_in (base_at set i) < size
+
+-- A client has one such draft; or none, and no step was done.
 abbrev pub AreSafeDrafts : ℕ → PoolSet → ℕ → Type 0
 AreSafeDrafts size set zero = (set.count ≡ 0) × (set.fed ≡ 0)
-AreSafeDrafts size set (suc zero) = (picked_of set ≡ 0) × (root_in (base_at set 0) < size)
+AreSafeDrafts size set (suc zero) = AreDraftsIn size set 1
 AreSafeDrafts size set (suc (suc n)) = ⊥
 
 -- The client has one draft, which is picked and whose base is in the store.

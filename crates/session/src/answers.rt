@@ -1,6 +1,6 @@
 ghost use Rattle.std.specs.Prelude.{◌≡◌, ◌<◌, ◌≤◌, ◌+◌, ◌∷◌, [], length, IfSome};
 ghost use Rattle.ground_model.specs.Lines.{in_line};
-ghost use Rattle.session.specs.Answers.{IsAnswered, IsCaused, NotesAlone};
+ghost use Rattle.session.specs.Answers.{IsAnswered, IsCaused, LetsGo, NotesAlone};
 ghost use Rattle.session.specs.Calls.{IsReady, TurnCall};
 ghost use Rattle.session.specs.Own.{IsAtRest};
 ghost use Rattle.session.specs.Safe.{line_of};
@@ -58,9 +58,17 @@ impl Course {
         self.turns = 0;
         if self.replies.len() == script.len() && self.drafts.roots() > 0 {
             common.note(self.client, line, What::GivenUp);
-            self.drafts.clear();
+            self.let_go(common);
         }
         Turned::Line { line }
+    }
+
+    /// Lets go of the drafts of the update that is over, and of its locks.
+    pub(crate) fn let_go<B: Blocks>(&mut self, common: &mut Common<B>)
+        ensures { LetsGo common.old common.new self.old self.new }
+    {
+        self.drafts.clear();
+        common.locks.release(self.client);
     }
 
     /// Answers a line that is refused before anything is done for it.

@@ -1,5 +1,5 @@
 ghost use Rattle.session.specs.Laws.{OwnIsLeft, RestIsBetween, SafeIsLeft, TurnsAreWithin};
-ghost use Rattle.session.specs.Laws.{UpdateIsPlain};
+ghost use Rattle.session.specs.Laws.{UpdateIsSmall};
 
 use pair_store::Blocks;
 
@@ -12,9 +12,9 @@ pub fn others_are_left<B: Blocks>()
 
 /// Runs nothing. Its contract: the turns of a line are within its bound; where a client is between
 /// two lines nothing is noted of the next one, and none has an update open behind its last line;
-/// and each open update is of one file.
+/// and each open update is of at most seventeen files.
 pub fn lines_are_bounded()
     ensures within { TurnsAreWithin }
     ensures between { RestIsBetween }
-    ensures plain { UpdateIsPlain }
+    ensures small { UpdateIsSmall }
 {}

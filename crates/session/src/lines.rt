@@ -4,7 +4,7 @@ ghost use Rattle.draft_model.specs.Views.{IsWanted, Wants, WantsNone, copies};
 ghost use Rattle.tree_model.specs.Trees.{IsMake};
 ghost use Rattle.tree_model.specs.declared.step.Step.{Step};
 ghost use Rattle.script_text.specs.ScriptValue.{ScriptValue};
-ghost use Rattle.script_text.specs.declared.command.Command.TheVariants.{Begin, Do, Abandon};
+ghost use Rattle.script_text.specs.declared.command.Command.TheVariants.{Begin, Do, Abandon, Pick};
 ghost use Rattle.service_model.specs.Causes.{right_for};
 ghost use Rattle.session.specs.Names.{IsGranted};
 ghost use Rattle.session.specs.Built.{IsBuilt};
@@ -12,7 +12,8 @@ ghost use Rattle.tree_model.specs.Accesses.{end_of};
 ghost use Rattle.session.specs.Answers.{IsAtCommand};
 ghost use Rattle.session.specs.Calls.{IsReady, TurnCall};
 ghost use Rattle.session.specs.Own.{IsAtRest};
-ghost use Rattle.session.specs.Safe.{HasDraftIn, drafts_of, line_of, view_of};
+ghost use Rattle.pool_draft.specs.Sets.{picked_of};
+ghost use Rattle.session.specs.Safe.{drafts_of, line_of, picked_view, rights_of};
 
 // The lines that open an update, do a step, and give an update up.
 
@@ -93,6 +94,7 @@ impl Course {
             Command::Do { step } => self.step(common, script, step),
             Command::Commit => self.commit(common, script),
             Command::Abandon => self.abandon(common, script),
+            Command::Pick { k } => self.pick(common, script, *k),
             _ => unreachable!(),
         }
     }
@@ -138,7 +140,8 @@ impl Course {
             Ok(version) => {
                 let _added = self.drafts.add(at, &version);
                 self.drafts.pick(0);
-                self.rights = granted.rights;
+                self.rights.clear();
+                self.rights.push(granted.rights);
                 let base = Named {
                     object: version.object,
                     serial: version.serial,
@@ -151,6 +154,34 @@ impl Course {
         }
     }
 
+    /// The rights to the file that steps go to.
+    fn rights(&self) -> u8
+        ensures { result ≡ rights_of self.now }
+    {
+        let rights = self.rights.as_slice();
+        match rights.get(self.drafts.picked() as usize) {
+            Some(rights) => *rights,
+            None => 0,
+        }
+    }
+
+    /// A line that picks the file of the update that steps go to, by its place among the files.
+    fn pick<B: Blocks>(&mut self, common: &mut Common<B>, script: &Script, place: u8) -> Turned
+        requires ready { IsReady B.Blocks script.now common.old self.old }
+        requires command { IsAtCommand script.now self.old (Pick place) }
+        ensures { TurnCall B.Blocks IsAtRest script.now common.old common.new self.old self.new
+            result }
+    {
+        if self.drafts.roots() == 0 {
+            return self.refuse(common, script, LineRefusal::Idle);
+        }
+        if place as usize >= self.drafts.roots() {
+            return self.refuse(common, script, LineRefusal::NoSuchPick);
+        }
+        self.drafts.pick(place);
+        self.answer(common, script, LineReply::Picked)
+    }
+
     /// A step: a page that it needs is read, or else it is done.
     fn step<B: Blocks>(&mut self, common: &mut Common<B>, script: &Script, step: &Step) -> Turned
         requires ready { IsReady B.Blocks script.now common.old self.old }
@@ -161,7 +192,7 @@ impl Course {
         if self.drafts.roots() == 0 {
             return self.refuse(common, script, LineRefusal::Idle);
         }
-        if !has_rights(self.rights, right_for(step)) {
+        if !has_rights(self.rights(), right_for(step)) {
             return self.refuse(common, script, LineRefusal::DeniedRights);
         }
         if self.drafts.count() == MAX_STEPS {
@@ -175,12 +206,12 @@ impl Course {
 
     /// Reads a page that a step needs.
     fn fetch<B: Blocks>(&mut self, common: &mut Common<B>, path: &Path, block: BlockNo) -> Turned
-        requires draft { HasDraftIn (B.size common.old.store) self.old }
-        requires wanted { IsWanted (copies (view_of self.old)) path.now }
+        requires draft { picked_of self.old.drafts < drafts_of self.old }
+        requires wanted { IsWanted (copies (picked_view self.old)) path.now }
         ensures { (script : ScriptValue) (step : Step) → IsReady B.Blocks script common.old self.old
             → IsAtCommand script self.old (Do step)
-            → has_rights self.old.rights (right_for step) ≡ true → self.old.drafts.count < 128
-            → Wants (copies (view_of self.old)) (end_of step) path.now block
+            → has_rights (rights_of self.old) (right_for step) ≡ true → self.old.drafts.count < 128
+            → Wants (copies (picked_view self.old)) (end_of step) path.now block
             → TurnCall B.Blocks IsAtRest script common.old common.new self.old self.new result }
     {
         let level = path.len();
@@ -206,10 +237,10 @@ impl Course {
     fn do_step<B: Blocks>(&mut self, common: &mut Common<B>, script: &Script, step: &Step) -> Turned
         requires ready { IsReady B.Blocks script.now common.old self.old }
         requires command { IsAtCommand script.now self.old (Do step.now) }
-        requires draft { drafts_of self.old ≡ 1 }
-        requires none { WantsNone (copies (view_of self.old)) (end_of step.now) }
+        requires draft { picked_of self.old.drafts < drafts_of self.old }
+        requires none { WantsNone (copies (picked_view self.old)) (end_of step.now) }
         requires few { self.old.drafts.count < 128 }
-        requires rights { has_rights self.old.rights (right_for step.now) ≡ true }
+        requires rights { has_rights (rights_of self.old) (right_for step.now) ≡ true }
         ensures { TurnCall B.Blocks IsAtRest script.now common.old common.new self.old self.new
             result }
     {
@@ -237,7 +268,7 @@ impl Course {
             return self.refuse(common, script, LineRefusal::Idle);
         }
         self.note(common, script, What::GivenUp);
-        self.drafts.clear();
+        self.let_go(common);
         self.answer(common, script, LineReply::Abandoned)
     }
 }

@@ -8,6 +8,7 @@ use crate::log::Replies;
 use crate::stage::Stage;
 use crate::turned::Turned;
 use afs_base::{ClientNo, Memory};
+use arrayvec::ArrayVec;
 use frame_pool::Pool;
 use page_merge::Done;
 use pair_store::Blocks;
@@ -49,7 +50,7 @@ impl Session {
                 client,
                 replies,
                 drafts: PoolSet::over(pool, lease),
-                rights: 0,
+                rights: ArrayVec::new(),
                 held: 0,
                 stage: Stage::Resting,
                 turns: 0,
@@ -127,8 +128,12 @@ impl Session {
         if self.course.replies.len() == self.script.len() {
             return Turned::Finished;
         }
+        // A stage is large, so it is not moved where the client rests, as in most turns.
+        if let Stage::Resting = &self.course.stage {
+            return self.course.begin_line(common, &self.script);
+        }
         match mem::replace(&mut self.course.stage, Stage::Resting) {
-            Stage::Resting => self.course.begin_line(common, &self.script),
+            Stage::Resting => unreachable!(),
             Stage::Naming { next } => self.course.open_next(common, next),
             Stage::Walking { walk } => self.course.walk_on(common, &self.script, walk, offer),
             Stage::Writing { flush } => self.course.write_on(common, &self.script, flush),

@@ -5,8 +5,8 @@ use Rattle.session.proofs.course.Course.abandon.Goals as goal
 
 pub returns : goal.returns
 returns g c =
-    abandon_turn g.B.Blocks c.args.script.now c.args.common.now c.note.new.common c.answer.new.common c.args.self.now c.answer.new.self c.clear.new.self c.answer.result
+    abandon_turn g.B.Blocks c.args.script.now c.args.common.now c.note.new.common c.let_go.new.common c.answer.new.common c.args.self.now c.let_go.new.self c.answer.new.self c.answer.result
     (λ told. line_turn_stands g.B.Blocks (λ s n f always left. g.met.B.Blocks.settled_left s n f told always left))
     g.met.B.Blocks.clock c.requires.ready c.requires.command (λ none. c.if-roots-eq0.false (c.roots.ensures.value ∙ none))
-    (record { none = c.clear.ensures.roots; count = c.clear.ensures.counts.0; fed = c.clear.ensures.counts.1 })
+    c.let_go.ensures
     c.note.ensures c.answer.ensures.answered c.answer.ensures.line

@@ -1,12 +1,10 @@
-use Rattle.std.proofs.Common.{ℕ, sym, subst, arith}
-use Rattle.draft_model.specs.Views.{WantsNone, copies}
+use Rattle.std.proofs.Common.{arith}
 use Rattle.page_codec.specs.declared.why.Why.TheVariants.{Level}
-use Rattle.pool_draft.specs.Sets.{roots_of, view_at}
-use Rattle.tree_model.specs.Accesses.{end_of}
 use Rattle.ground_model.proofs.LineTurns.{line_turn_stands}
 use Rattle.session.specs.Own.{IsAtRest}
 use Rattle.session.proofs.Never.{never_call}
-use Rattle.session.proofs.Stepping.{is_stepped, make_is_lost, on_same_base, one_draft, step_turn}
+use Rattle.session.proofs.Drafting.{on_picked}
+use Rattle.session.proofs.Stepping.{is_stepped, make_is_lost, step_turn}
 use Rattle.session.proofs.course.Course.do_step.Goals as goal
 
 pub returns-then-is_make : goal.returns-then-is_make
@@ -14,20 +12,12 @@ returns-then-is_make g c =
     never_call g.B.Blocks IsAtRest c.args.script.now c.args.common.now c.args.self.now c.root-block.result Level c.requires.ready
     (λ told. make_is_lost g.B.Blocks c.args.script.now c.args.common.now c.args.self.now c.args.step.now c.requires.command c.requires.draft (omega (arith, c.fed.ensures.value)) (c.is_make.ensures.short c.if-is_make.true))
 
-pub step-requires-clause-none : goal.step-requires-clause-none
-step-requires-clause-none g c =
-    let s = c.args.self.now in
-    let one = one_draft (g.B.Blocks.size c.args.common.now.store) s.drafts (roots_of s.drafts) c.requires.draft c.requires.ready.safe.drafts in
-    subst (λ (k : ℕ). WantsNone (copies (view_at s.drafts k)) (end_of c.args.step.now)) (sym one.0) c.requires.none
-
 pub returns : goal.returns
 returns g c =
     let s = c.args.self.now in
-    let one = one_draft (g.B.Blocks.size c.args.common.now.store) s.drafts (roots_of s.drafts) c.requires.draft c.requires.ready.safe.drafts in
     let did = c.in-Ok.ensures in
-    let base = on_same_base s.drafts c.step.new.self one.0 c.requires.draft did.rest did.same in
     step_turn g.B.Blocks c.args.script.now c.args.common.now c.answer.new.common s c.answer.new.self c.args.step.now c.step.new.self c.in-Ok.reply c.answer.result
     (λ told. line_turn_stands g.B.Blocks (λ s n f always left. g.met.B.Blocks.settled_left s n f told always left))
     g.met.B.Blocks.clock c.requires.ready c.requires.command c.requires.draft c.requires.rights c.requires.few
-    (is_stepped s.drafts c.step.new.self c.args.step.now c.in-Ok.reply one.0 base did.runs did.count did.fed)
+    (is_stepped s.drafts c.step.new.self c.args.step.now c.in-Ok.reply (on_picked s.drafts c.step.new.self did.rest did.same) did.runs did.count did.fed)
     c.answer.ensures.answered c.answer.ensures.line

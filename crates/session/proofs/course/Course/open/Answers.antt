@@ -1,4 +1,4 @@
-use Rattle.std.proofs.Common.{[], ◌∷◌, ap, ◌∙◌}
+use Rattle.std.proofs.Common.{ℕ, List, [], ◌∷◌, ◌++◌, ap, ◌∙◌}
 use Rattle.page_codec.specs.Values.{VersionValue}
 use Rattle.pool_draft.specs.Sets.{roots_of}
 use Rattle.pool_draft.proofs.Begun.{begun_alone, one_added}
@@ -16,7 +16,7 @@ returns-in-Ok g c =
     let safe = no_drafts (g.B.Blocks.size c.args.common.now.store) s.drafts (roots_of s.drafts) c.requires.none c.requires.ready.safe.drafts in
     let added = one_added c.add-added.result s.drafts c.add-added.new.self c.args.granted.now.head.block c.in-Ok.version (λ no. c.add-added.ensures.full.0 no) c.add-added.ensures.added c.requires.none in
     let begun = begun_alone s.drafts c.add-added.new.self c.pick.new.self c.args.granted.now.head.block c.in-Ok.version c.requires.none safe.0 safe.1 added c.pick.ensures.picked c.pick.ensures.same in
-    begin_turn g.B.Blocks c.args.script.now c.args.common.now c.read_version.new.self c.note.new.common c.answer.new.common s c.answer.new.self c.args.file.now c.args.granted.now c.in-Ok.version c.pick.new.self
+    begin_turn g.B.Blocks c.args.script.now c.args.common.now c.read_version.new.self c.note.new.common c.answer.new.common s c.answer.new.self c.args.file.now c.args.granted.now c.in-Ok.version c.pick.new.self c.push.new.self
     c.one-bases.result c.one_serial.result
     (record {
       its_bases = c.one-bases.ensures ∙ ap (λ (v : VersionValue). base_of v ∷ []) c.version.view_is;
@@ -24,7 +24,7 @@ returns-in-Ok g c =
     })
     (λ told. line_turn_stands g.B.Blocks (λ d n f always left. g.met.B.Blocks.settled_left d n f told always left))
     c.requires.ready c.requires.command c.requires.none c.requires.granted c.in-Ok.ensures
-    (begins_at c.pick.new.self c.args.granted.now.head.block c.in-Ok.version begun)
+    (begins_at c.pick.new.self c.args.granted.now.head.block c.in-Ok.version begun) (c.push.ensures.items ∙ ap (λ (xs : List ℕ). xs ++ c.args.granted.now.rights ∷ []) c.clear.ensures)
     c.note.ensures c.answer.ensures.answered c.answer.result c.answer.ensures.line
 
 pub returns-in-Err : goal.returns-in-Err

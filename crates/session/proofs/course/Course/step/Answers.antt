@@ -1,29 +1,18 @@
-use Rattle.std.proofs.Common.{ℕ, ◌<◌, subst, ◌∙◌, arith, rules}
-use Rattle.draft_model.specs.Views.{WantsNone, copies}
-use Rattle.pool_draft.specs.Sets.{roots_of, view_at}
-use Rattle.tree_model.specs.Accesses.{end_of}
-use Rattle.session.proofs.Stepping.{has_one, one_draft, wanted_here, wants_here}
+use Rattle.std.proofs.Common.{◌<◌, ◌∙◌, arith, rules}
+use Rattle.session.proofs.RefusedLines.{step_denied, step_full}
 use Rattle.session.proofs.course.Course.step.Goals as goal
 
-pub fetch-requires-clause-wanted : goal.fetch-requires-clause-wanted
-fetch-requires-clause-wanted g c =
-    let s = c.args.self.now in
-    let one = has_one (g.B.Blocks.size c.args.common.now.store) s.drafts (roots_of s.drafts) (λ none. c.if-roots-eq0.false (c.roots.ensures.value ∙ none)) c.requires.ready.safe.drafts in
-    let safe = one_draft (g.B.Blocks.size c.args.common.now.store) s.drafts (roots_of s.drafts) one c.requires.ready.safe.drafts in
-    wanted_here s.drafts (end_of c.args.step.now) _ _ safe.0 c.in-Some.ensures
+pub refuse-requires-then-not-has_rights-clause-cause : goal.refuse-requires-then-not-has_rights-clause-cause
+refuse-requires-then-not-has_rights-clause-cause g c = λ told.
+    step_denied g.B.Blocks c.args.script.now c.args.common.now c.args.self.now c.args.step.now c.requires.command (λ none. c.if-roots-eq0.false (c.roots.ensures.value ∙ none)) (search rules)
 
-pub do_step-requires-clause-none : goal.do_step-requires-clause-none
-do_step-requires-clause-none g c =
-    let s = c.args.self.now in
-    let one = has_one (g.B.Blocks.size c.args.common.now.store) s.drafts (roots_of s.drafts) (λ none. c.if-roots-eq0.false (c.roots.ensures.value ∙ none)) c.requires.ready.safe.drafts in
-    let safe = one_draft (g.B.Blocks.size c.args.common.now.store) s.drafts (roots_of s.drafts) one c.requires.ready.safe.drafts in
-    subst (λ (k : ℕ). WantsNone (copies (view_at s.drafts k)) (end_of c.args.step.now)) safe.0 c.in-None.ensures
+pub refuse-requires-then-count-eq-MAX_STEPS-clause-cause : goal.refuse-requires-then-count-eq-MAX_STEPS-clause-cause
+refuse-requires-then-count-eq-MAX_STEPS-clause-cause g c = λ told.
+    step_full g.B.Blocks c.args.script.now c.args.common.now c.args.self.now c.args.step.now c.requires.command (λ none. c.if-roots-eq0.false (c.roots.ensures.value ∙ none)) (search rules)
+    (omega (arith, c.count.ensures.value, c.if-count-eq-MAX_STEPS.true))
 
 pub returns-in-Some : goal.returns-in-Some
 returns-in-Some g c =
     let s = c.args.self.now in
-    let one = has_one (g.B.Blocks.size c.args.common.now.store) s.drafts (roots_of s.drafts) (λ none. c.if-roots-eq0.false (c.roots.ensures.value ∙ none)) c.requires.ready.safe.drafts in
-    let safe = one_draft (g.B.Blocks.size c.args.common.now.store) s.drafts (roots_of s.drafts) one c.requires.ready.safe.drafts in
     let few : s.drafts.count < 128 = omega (arith, c.count.ensures.value, c.count.ensures.most, c.if-count-eq-MAX_STEPS.false) in
-    c.fetch.ensures c.args.script.now c.args.step.now c.requires.ready c.requires.command (search rules) few
-    (wants_here s.drafts (end_of c.args.step.now) _ _ safe.0 c.in-Some.ensures)
+    c.fetch.ensures c.args.script.now c.args.step.now c.requires.ready c.requires.command (search rules) few c.in-Some.ensures

@@ -1,5 +1,8 @@
 use Rattle.std.proofs.Common.{length, sym, arith}
-use Rattle.session.proofs.Stages.{at_stage, line_is_built, naming_own, ready_from, resting_own, staged_call, unfinished, walking_own, writing_own}
+use Rattle.session.specs.Own.{IsAtRest, IsOwn}
+use Rattle.session.specs.declared.stage.Stage.TheVariants.{Resting}
+use Rattle.session.proofs.Owned.{own_call}
+use Rattle.session.proofs.Stages.{at_stage, line_is_built, naming_own, ready_from, staged_call, unfinished, walking_own, writing_own}
 use Rattle.session.proofs.session.Session.turn.Goals as goal
 
 pub begin_line-requires-clause-built : goal.begin_line-requires-clause-built
@@ -7,9 +10,9 @@ begin_line-requires-clause-built g c = line_is_built c.args.self.now.script (len
 
 pub returns-in-Resting-clause-turn : goal.returns-in-Resting-clause-turn
 returns-in-Resting-clause-turn g c =
-    staged_call _ _ _ _ _ _ _ _ (omega (arith, c.if-len.false))
-    (λ scripts scene own. resting_own scripts scene _ _ _ (at_stage scripts scene _ _ c.replace.new.dest _ (sym c.in-Resting.ensures.value) own))
-    _ c.begin_line.ensures
+    own_call g.B.Blocks IsOwn IsAtRest c.args.self.now.script c.args.common.now c.begin_line.new.common c.args.self.now.course c.begin_line.new.self c.begin_line.result
+    (λ told opening scripts first scene at. at_stage scripts scene c.args.self.now.script c.args.self.now.course Resting Resting c.in-Resting.is at.mine)
+    c.begin_line.ensures
 
 pub returns-in-Naming-clause-turn : goal.returns-in-Naming-clause-turn
 returns-in-Naming-clause-turn g c =
