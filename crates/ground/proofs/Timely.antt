@@ -20,7 +20,7 @@ use Rattle.ground_model.proofs.SmallBounds.{bounds_are_small}
 use Rattle.session.specs.Built.{IsBuilt}
 use Rattle.session.specs.declared.session.Session.{Session}
 use Rattle.session.specs.declared.stage.Stage.TheVariants.{Resting}
-use Rattle.session.proofs.LineBounds.{rest_is_between, turns_are_within, update_is_plain}
+use Rattle.session.proofs.LineBounds.{rest_is_between, turns_are_within, update_is_small}
 use Rattle.session.proofs.Stages.{line_is_built}
 use Rattle.ground.specs.Grounds.{AllStand, HasRun, IsGround, StandsOr}
 use Rattle.ground.specs.Runs.{GroundValue, entries_in, scripts_in, scripts_of}
@@ -97,7 +97,7 @@ module _ {D : Type 0} (b : Ghosts D) (g : GroundValue D) (ground : IsGround b g)
     small : s.course.turns < 2 ^ 48
     small =
         let most = bounds_are_small (scripts_in g) stand.scene.standing s.course.client sound (let n = number in omega (arith, n, low))
-        (λ u was. update_is_plain (scripts_in g) stand.scene s.script s.course (stand.own (k - 1) s at) u was) in
+        (λ u was. update_is_small _ _ (scripts_in g) stand.scene s.script s.course (ground.safe.safe (k - 1) s at) (stand.own (k - 1) s at) u was) in
         let bound : line_bound (scripts_in g) (standing_of opening g) k ≡ line_bound (scripts_in g) stand.scene.standing s.course.client =
         ap (λ (x : Standing). line_bound (scripts_in g) x k) stands_now ∙ ap (λ n. line_bound (scripts_in g) stand.scene.standing n) (sym number) in
         let made = few_are_made opening (scripts_in g) (entries_in g) (names_few g.sessions) in
