@@ -58,9 +58,10 @@ fn is_built(command: &Command) -> bool
     ensures { result ≡ is_built command.now }
 {
     match command {
-        Command::Begin { .. } | Command::Do { .. } | Command::Commit | Command::Abandon => true,
-        Command::Super { .. } | Command::Pick { .. } | Command::Create => false,
-        Command::Destroy { .. } | Command::Prune { .. } | Command::Restrict { .. } => false,
+        Command::Begin { .. } | Command::Pick { .. } | Command::Do { .. } => true,
+        Command::Commit | Command::Abandon => true,
+        Command::Super { .. } | Command::Create | Command::Destroy { .. } => false,
+        Command::Prune { .. } | Command::Restrict { .. } => false,
     }
 }
 

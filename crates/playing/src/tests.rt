@@ -63,7 +63,7 @@ fn the_least_client_and_line_is_told(rt: HostRuntime) -> Result<(), Fail> {
         ("read\nmake /", 0, good, 0, 2, "script 1 line 1: word"),
         // lines of kinds that are not played, once all are in the grammar
         ("create", 0, good, 0, 2, "script 1 line 1: unbuilt"),
-        (good, 0, "\npick 1", 0, 2, "script 2 line 2: unbuilt"),
+        (good, 0, "\nsuper 1 2", 0, 2, "script 2 line 2: unbuilt"),
         ("destroy 1", 0, "create", 0, 2, "script 1 line 1: unbuilt"),
         ("super 1 2", 0, "\nread x", 0, 2, "script 2 line 2: path"),
     ];
