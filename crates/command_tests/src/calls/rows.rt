@@ -3,7 +3,7 @@ use super::*;
 
 /// Rows of seven parts with `~` between them: what makes the store, and the scripts that are played over it first; the
 /// words of a play over it and its scripts; its status and what it prints; and what is shown then.
-const ROWS: [&str; 22] = [
+const ROWS: [&str; 23] = [
     "format 7 2 64~|~play~|~0~\
         file 1: 1;file 2: 1;~\
         file 1: 1;/ -;file 2: 1;/ -;",
@@ -64,6 +64,10 @@ const ROWS: [&str; 22] = [
     "format 7 2 64~|~play~read /;commit;abandon;begin 3;begin 1;begin 2;write / aa;abandon;begin 2;write / bb|~0~\
         1.1 idle;1.2 idle;1.3 idle;1.4 denied object;1.5 base 1;1.6 open;1.7 ok;1.8 abandoned;1.9 base 1;1.10 ok;file 1: 1;file 2: 1;~\
         file 1: 1;/ -;file 2: 1;/ -;",
+    // Picks, of an update of one file and of none.
+    "format 7 2 64~|~play~pick 0;begin 1;pick 1;write / aa;pick 0;read /;commit;pick 0|~0~\
+        1.1 idle;1.2 base 1;1.3 absent;1.4 ok;1.5 ok;1.6 data aa;1.7 committed 2;1.8 idle;file 1: 1 2;file 2: 1;~\
+        file 1: 1 2;/ aa;file 2: 1;/ -;",
     // Lines that are not played yet.
     "format 7 2 64~|~play~begin 1;write / aa;commit|begin 1;create|~2~\
         script 2 line 2: unbuilt;~\
