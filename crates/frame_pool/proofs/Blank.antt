@@ -7,7 +7,7 @@ use Rattle.frame_pool.specs.Leasing.{Leased, unused_run, AreUnused}
 pub none_out : (n : ℕ) → count_by not (replicate n false) ≡ n
 none_out n = grind (arith, common_steps)
 
-front_kept : {T : Type 0} (xs ys : List T) (i : ℕ) (l : T) → slice_get xs i ≡ Some l → slice_get (xs ++ ys) i ≡ Some l
+pub front_kept : {T : Type 0} (xs ys : List T) (i : ℕ) (l : T) → slice_get xs i ≡ Some l → slice_get (xs ++ ys) i ≡ Some l
 front_kept [] ys i l at = absurd (cc at)
 front_kept (x ∷ xs) ys zero l at = at
 front_kept (x ∷ xs) ys (suc i) l at = front_kept xs ys i l at

@@ -1,5 +1,6 @@
-ghost use Rattle.std.specs.Prelude.{◌≡◌, ◌+◌, ◌*◌, ◌<◌, ◌≤◌, Some, length, slice_get, vec_len, IfNone, IfOk, IfSome};
+ghost use Rattle.std.specs.Prelude.{◌≡◌, ◌+◌, ◌*◌, ◌<◌, ◌≤◌, ◌++◌, Some, length, replicate, slice_get, vec_capacity, vec_len, IfNone, IfOk, IfSome};
 ghost use Rattle.std.specs.Borrow.{sem};
+ghost use Rattle.page_codec.specs.Blank.{empty_page};
 ghost use Rattle.frame_pool.specs.Leasing.{left, taken_out, put_back, IsIn, IsOf, IsOut};
 ghost use Rattle.frame_pool.specs.Lending.{LendsPage};
 
@@ -12,30 +13,42 @@ use page_codec::Page;
 use std::alloc::Global;
 use std::marker::Model;
 
-/// Pages in frames. Contracts see the list of the pages, by the numbers of their frames.
+/// Pages in frames. Contracts see the list of the pages, by the numbers of their frames. Memory for all of them is taken at once, but a
+/// frame's page is written only as it, or one behind it, is first changed: till then it is empty.
 #[derive(Drop)]
 pub struct Pool {
     pages: Vec<Page>,
+    // How many frames follow those, each with this page.
+    unwritten: usize,
+    blank: Page,
 }
 
 impl Model for Pool {
-    ghost use Rattle.std.specs.Prelude.{List};
+    ghost use Rattle.std.specs.Prelude.{◌≡◌, ◌+◌, ◌≤◌, List, ◌++◌, replicate, vec_capacity, vec_len};
+    ghost use Rattle.page_codec.specs.Blank.{empty_page};
     ghost use Rattle.page_codec.specs.Values.{PageValue};
 
     ghost Value = { List PageValue };
 
-    ghost view = { λ p. p.pages.items };
+    ghost view = { λ p. p.pages.items ++ replicate p.unwritten (empty_page 0) };
+
+    ghost invariant = { λ p. (vec_len p.pages + p.unwritten ≤ vec_capacity p.pages)
+        × (p.blank ≡ empty_page 0) };
 }
 
-/// So many empty pages.
-fn blank_pages(alloc: Global, count: usize) -> Result<Vec<Page>, Memory>
-    ensures { IfOk result (λ v. vec_len v ≡ count) }
+/// Writes the pages of the first unwritten frames, up to a frame.
+fn write_up_to(pages: &mut Vec<Page>, unwritten: &mut usize, last: usize)
+    requires room { vec_len pages.old + unwritten.old ≤ vec_capacity pages.old }
+    requires among { last < vec_len pages.old + unwritten.old }
+    ensures same { pages.new.items ++ replicate unwritten.new (empty_page 0)
+        ≡ pages.old.items ++ replicate unwritten.old (empty_page 0) }
+    ensures room { vec_len pages.new + unwritten.new ≤ vec_capacity pages.new }
+    ensures written { last < vec_len pages.new }
 {
-    let mut pages = Vec::with_capacity(alloc, count)?;
-    for _ in 0..count {
-        pages.push(Page::empty(0))?;
+    while pages.len() <= last {
+        pages.push_reserved(Page::empty(0));
+        *unwritten -= 1;
     }
-    Ok(pages)
 }
 
 impl Pool {
@@ -45,9 +58,16 @@ impl Pool {
         ensures pages { IfOk result (λ r. length r.0 ≡ 1024 * clients) }
         ensures leases { IfOk result (λ r. (r.1.next ≡ 0) × (r.1.clients ≡ clients)) }
     {
-        let pages = blank_pages(alloc, (FRAMES * clients) as usize)?;
+        let unwritten = (FRAMES * clients) as usize;
+        let pages = Vec::with_capacity(alloc, unwritten)?;
         let leases = Leases::make(alloc, clients)?;
-        Ok((Pool { pages }, leases))
+        let blank = Page::empty(0);
+        let pool = Pool {
+            pages,
+            unwritten,
+            blank,
+        };
+        Ok((pool, leases))
     }
 
     /// Takes a frame out of a lease of this pool. None exactly where the lease has none left.
@@ -81,7 +101,10 @@ impl Pool {
         requires { frame.now < length self.now }
         ensures { slice_get self.now frame.now ≡ Some result.now }
     {
-        &self.pages[frame.place()]
+        match self.pages.get(frame.place()) {
+            Some(page) => page,
+            None => &self.blank,
+        }
     }
 
     /// The page in a frame of this pool, to be changed. No other page changes.
@@ -90,6 +113,8 @@ impl Pool {
         ensures* writes_back { sem 𝓛 (LendsPage self.entry frame.now result) }
         ensures value { slice_get self.old frame.now ≡ Some result.now }
     {
-        &mut self.pages[frame.place()]
+        let place = frame.place();
+        write_up_to(&mut self.pages, &mut self.unwritten, place);
+        &mut self.pages[place]
     }
 }
