@@ -1,4 +1,4 @@
-ghost use Rattle.std.specs.Prelude.{◌≡◌, ℕ, ◌+◌, ◌<◌, ◌≤◌, ◌^◌, [], true, length, slice_get, MatchOption, OnSome, Some};
+ghost use Rattle.std.specs.Prelude.{◌≡◌, ◌↔◌, IsTrue, ℕ, ◌+◌, ◌<◌, ◌≤◌, ◌^◌, [], true, length, slice_get, MatchOption, OnSome, Some};
 ghost use Rattle.block_map.specs.States.{held_count};
 ghost use Rattle.tree_model.specs.Accesses.{written_paths};
 ghost use Rattle.draft_model.specs.Told.{are_rising};
@@ -38,7 +38,7 @@ impl Model for Flush {
 }
 
 /// The same members once more.
-fn copy_of(members: &Members) -> Members
+pub fn same_members(members: &Members) -> Members
     ensures { result ≡ members.now }
 {
     let mut copy = Members::none();
@@ -67,7 +67,7 @@ fn version_for<D: Draft>(draft: &D, places: &[Place], members: &Members) -> Vers
         serial: draft.serial() + 1,
         commit: None,
         base: Some(draft.root()),
-        members: copy_of(members),
+        members: same_members(members),
     }
 }
 
@@ -137,6 +137,20 @@ impl Flush {
         self.write(draft, own, &place.path, into);
         self.written += 1;
         Some(place.block)
+    }
+
+    /// How many blocks are written, at least one.
+    pub fn len(&self) -> usize
+        ensures { result ≡ length self.now.placed }
+    {
+        self.places.as_slice().len()
+    }
+
+    /// Whether all of them were given out.
+    pub fn is_done(&self) -> bool
+        ensures { IsTrue result ↔ (self.now.written ≡ length self.now.placed) }
+    {
+        self.written == self.places.as_slice().len()
     }
 
     /// The place of a number.

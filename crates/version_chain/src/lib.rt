@@ -10,5 +10,5 @@ mod planning;
 
 pub use afs_base::Head;
 pub use chain::Chain;
-pub use flush::Flush;
+pub use flush::{Flush, same_members};
 pub use laws::{next_law, others_law, whole_law};
