@@ -60,6 +60,7 @@ pub struct PoolSet {
 impl PoolSet {
     ghost use Rattle.pool_draft.specs.Sets.{AreSameDrafts, IsAdded, IsBegun};
     ghost use Rattle.pool_draft.specs.Sets.{base_at, frames_in, picked_of, roots_of};
+    ghost use Rattle.pool_draft.specs.Roots.{root_in, object_in, serial_in};
 
     /// A set without roots in the frames of a lease of the pool, which can give at least 921.
     pub fn over(pool: Pool, lease: Lease<Row>) -> PoolSet
@@ -165,6 +166,32 @@ impl PoolSet {
         ensures some { 0 < result }
     {
         self.pages.left()
+    }
+
+    /// The block of the version page that the draft of a number is based on.
+    pub fn root_at(&self, k: u8) -> BlockNo
+        requires { k < roots_of self.now }
+        ensures value { result ≡ root_in (base_at self.now k) }
+        ensures named { 0 < result }
+    {
+        self.bases.as_slice()[k as usize].root
+    }
+
+    /// The file of the draft of a number.
+    pub fn object_at(&self, k: u8) -> u32
+        requires { k < roots_of self.now }
+        ensures value { result ≡ object_in (base_at self.now k) }
+        ensures some { 0 < result }
+    {
+        self.bases.as_slice()[k as usize].object
+    }
+
+    /// The serial of the version that the draft of a number is based on.
+    pub fn serial_at(&self, k: u8) -> u64
+        requires { k < roots_of self.now }
+        ensures { result ≡ serial_in (base_at self.now k) }
+    {
+        self.bases.as_slice()[k as usize].serial
     }
 
     /// Gives all frames back.
