@@ -1,0 +1,10 @@
+pub mod HeldStays
+pub mod Blocks
+pub mod Fresh
+pub mod Lists
+pub mod Coming
+pub mod Staying
+pub mod Readying
+pub mod Stepping
+pub mod Laying
+pub mod Moving
