@@ -106,6 +106,13 @@ pub picked_gives : (old mid : PoolSet) (j : Joint) (plan : Plan) (block : ℕ) (
 picked_gives old mid j plan block bytes same picked gives =
     gives_as _ _ _ _ _ _ _ _ block bytes (picked_view old mid j same picked) (picked_base old mid j same picked) refl refl gives
 
+pub gives_now : (old mid : PoolSet) (was j : Joint) (plan : Plan) (block : ℕ) (bytes : List ℕ) → was ≡ j → AreSameDrafts old mid → picked_of mid ≡ current_of j
+    → GivesNext (view_at mid (picked_of mid)) (base_in mid (picked_of mid)) was.flush plan block bytes
+    → (x : Plan) × GivesNext (view_at old (current_of j)) (base_in old (current_of j)) j.flush x block bytes
+gives_now old mid was j plan block bytes is same picked gives =
+    (plan, picked_gives old mid j plan block bytes same picked
+    (subst (λ (k : Joint). GivesNext (view_at mid (picked_of mid)) (base_in mid (picked_of mid)) k.flush plan block bytes) is gives))
+
 -- it stays ready, with another plan of the same places
 pub ready_next : (old mid : PoolSet) (states : List BlockState) (client : ℕ) (j : Joint) (plan : Plan) → AreSameDrafts old mid → plan.placed ≡ j.flush.placed → IsReadyJoint old states client j
     → IsReadyJoint mid states client (with_plan j plan)

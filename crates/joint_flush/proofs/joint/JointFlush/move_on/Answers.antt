@@ -1,4 +1,4 @@
-use Rattle.std.proofs.Common.{◌≡◌, ℕ, List, Some, ap, sym, subst, ◌∙◌, arith}
+use Rattle.std.proofs.Common.{◌<◌, sym, subst, arith}
 use Rattle.std.specs.List.{AllByRecursion}
 use Rattle.block_map.specs.declared.states.BlockState.TheVariants.{Held}
 use Rattle.pool_draft.specs.Sets.{roots_of}
