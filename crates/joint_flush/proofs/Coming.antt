@@ -1,14 +1,12 @@
 -- How far a commit has come: what is being written, what comes next, and what one block more leaves.
-use Rattle.std.proofs.Common.{◌≡◌, ℕ, zero, suc, ◌+◌, ◌<◌, ◌≤◌, List, [], ◌∷◌, ◌++◌, length, refl, sym, ap, subst, ◌∙◌, Option, Some, None, arith, slice_get, slice_set, add-one}
+use Rattle.std.proofs.Common.{◌≡◌, ℕ, zero, suc, ◌+◌, ◌<◌, ◌≤◌, List, [], ◌∷◌, ◌++◌, length, refl, sym, ap, subst, ◌∙◌, Option, Some, None, arith, slice_get, slice_set}
 use Rattle.std.specs.List.{AllByRecursion}
-use Rattle.block_map.specs.States.{held_count}
 use Rattle.block_map.specs.declared.states.BlockState.{BlockState}
 use Rattle.page_codec.specs.Values.{MemberValue}
-use Rattle.draft_model.specs.Flush.{Placed, block_of}
-use Rattle.version_chain.specs.Flush.{Plan, AreHeld, StartsAtRoot}
+use Rattle.version_chain.specs.Flush.{Plan, AreHeld}
 use Rattle.pool_draft.specs.declared.pool_set.PoolSet.{PoolSet}
-use Rattle.joint_flush.specs.Joint.{Joint, Part, AreHeldInTurn, IsNamed, AreNamed, IsWhole, IsUnbegun, IsUnderWay, HasCome}
-use Rattle.joint_flush.proofs.Lists.{part_is, each_at}
+use Rattle.joint_flush.specs.Joint.{Joint, Part, AreHeldInTurn, IsNamed, AreNamed, IsWhole, IsUnbegun, HasCome}
+use Rattle.joint_flush.proofs.Lists.{part_is}
 
 -- one block more of the plan, or of the part, was given out
 abbrev pub more_plan : Plan → Plan

@@ -1,5 +1,5 @@
 -- The pages that are written of a draft are told by what the draft shows, so they are the same where all drafts are.
-use Rattle.std.proofs.Common.{◌≡◌, ℕ, ◌+◌, ◌<◌, ◌≤◌, suc, Bool, true, false, ◌&&◌, cond, T, List, [], ◌∷◌, map, length, refl, sym, ap, subst, ◌∙◌, Option, Some, None, arith, slice_get, ◌||◌}
+use Rattle.std.proofs.Common.{◌≡◌, ℕ, ◌<◌, Bool, true, false, ◌&&◌, cond, T, List, [], ◌∷◌, map, length, refl, sym, ap, subst, ◌∙◌, Some, arith, ◌||◌}
 use Rattle.std.specs.Prelude.{max}
 use Rattle.std.proofs.Math.Nat.{max-eq_left}
 use Rattle.std.specs.List.{list_all}
@@ -11,7 +11,7 @@ use Rattle.tree_model.proofs.Paths.{same_test, path_total, path_only}
 use Rattle.tree_model.proofs.KeyLists.{Key, marked}
 use Rattle.draft_model.specs.Views.{View}
 use Rattle.draft_model.specs.Told.{AreFresh, are_rising, is_one_of}
-use Rattle.draft_model.specs.Entries.{shown, fresh_paths}
+use Rattle.draft_model.specs.Entries.{fresh_paths}
 use Rattle.draft_model.specs.Flush.{IsPlaced, Placed}
 use Rattle.draft_model.proofs.Entries.{all_fresh}
 use Rattle.version_chain.specs.Flush.{Plan, paths_of}

@@ -1,6 +1,5 @@
 -- Where a client is left the blocks that it holds, and holds no more, the blocks are the same, counted upwards too.
-use Rattle.std.proofs.Common.{◌≡◌, ℕ, zero, suc, ◌+◌, ◌≤◌, Bool, true, false, List, [], ◌∷◌, take, Option, Some, None, refl, sym, ap, ◌∙◌, subst, arith, cond, slice_get, true≢false, eq-eqb, eqb-true}
-use Rattle.std.specs.Prelude.{count_by, slice_index_or}
+use Rattle.std.proofs.Common.{◌≡◌, ℕ, zero, suc, ◌+◌, ◌≤◌, Bool, true, false, List, [], ◌∷◌, take, Some, None, refl, sym, ap, ◌∙◌, arith, slice_get, true≢false, eq-eqb, eqb-true}
 use Rattle.block_map.proofs.Counting.{count_by-cons, one}
 use Rattle.block_map.specs.States.{held_below, held_count, is_held, state_at}
 use Rattle.block_map.specs.declared.states.BlockState.{BlockState}

@@ -1,22 +1,20 @@
 -- The parts of a commit as it is planned: of each number the pages that are written, in the blocks behind those of the numbers before it.
-use Rattle.std.proofs.Common.{◌≡◌, ℕ, zero, suc, ◌+◌, ◌<◌, ◌≤◌, List, [], ◌∷◌, map, length, refl, sym, ap, subst, ◌∙◌, Option, Some, None, MatchOption, arith, slice_get, add-one}
+use Rattle.std.proofs.Common.{◌≡◌, ℕ, ◌+◌, ◌<◌, ◌≤◌, List, [], ◌∷◌, map, length, refl, sym, ap, subst, ◌∙◌, Some, MatchOption, arith, slice_get}
 use Rattle.std.specs.Prelude.{slice_index}
 use Rattle.std.specs.List.{AllByRecursion}
 use Rattle.block_map.specs.States.{held_count}
 use Rattle.block_map.specs.declared.states.BlockState.{BlockState}
 use Rattle.page_codec.specs.Values.{MemberValue}
 use Rattle.draft_model.specs.Flush.{Placed, block_of}
-use Rattle.version_chain.specs.Flush.{Plan, AreHeld, StartsAtRoot, paths_of}
+use Rattle.version_chain.specs.Flush.{Plan, AreHeld, StartsAtRoot}
 use Rattle.version_chain.proofs.Writing.{top_block}
-use Rattle.draft_model.specs.Entries.{fresh_paths}
 use Rattle.pool_draft.specs.declared.pool_set.PoolSet.{PoolSet}
-use Rattle.pool_draft.specs.Held.{tree_of}
 use Rattle.pool_draft.specs.Roots.{object_in}
-use Rattle.pool_draft.specs.Sets.{base_at, roots_of, view_at}
-use Rattle.joint_flush.specs.Joint.{Joint, Part, paths_at, pages_in, IsPart, AreHeldInTurn, IsNamed, AreNamed, IsUnbegun, HasCome, AreParts, IsJoint, IsPlanned, IsNextPlan}
+use Rattle.pool_draft.specs.Sets.{base_at, roots_of}
+use Rattle.joint_flush.specs.Joint.{Joint, Part, paths_at, pages_in, IsPart, AreHeldInTurn, AreNamed, IsUnbegun, HasCome, IsJoint, IsPlanned, IsNextPlan}
 use Rattle.joint_flush.proofs.Blocks.{place_all, same_places}
 use Rattle.joint_flush.proofs.Fresh.{part_at}
-use Rattle.joint_flush.proofs.Lists.{number_of, get_behind}
+use Rattle.joint_flush.proofs.Lists.{number_of}
 use Rattle.joint_flush.proofs.Coming.{held_behind}
 use Rattle.joint_flush.proofs.Readying.{part_size, part_some}
 use Rattle.joint_flush.proofs.Stepping.{plan_same}

@@ -1,5 +1,5 @@
 -- What the calls of a commit of several files rest on: the blocks that it gives out are held, the drafts are those of the plan, and there is room.
-use Rattle.std.proofs.Common.{◌≡◌, ◌≢◌, ℕ, zero, suc, ◌+◌, ◌<◌, ◌≤◌, List, [], ◌∷◌, ◌++◌, drop, length, ◌⊎◌, inl, inr, refl, sym, ap, subst, ◌∙◌, Option, Some, None, arith, slice_get}
+use Rattle.std.proofs.Common.{◌≡◌, ◌≢◌, ℕ, zero, suc, ◌+◌, ◌<◌, ◌≤◌, List, [], ◌∷◌, ◌++◌, drop, length, inl, inr, refl, sym, ap, subst, ◌∙◌, Option, Some, arith, slice_get}
 use Rattle.std.specs.Prelude.{slice_index}
 use Rattle.std.specs.Option.{option_map_or}
 use Rattle.std.specs.List.{AllByRecursion}
@@ -11,14 +11,14 @@ use Rattle.page_codec.specs.Values.{MemberValue}
 use Rattle.page_codec.specs.Bounds.{IsSoundMember}
 use Rattle.draft_model.specs.Views.{View}
 use Rattle.draft_model.specs.Flush.{Placed, IsPlaced, block_of, in_turn}
-use Rattle.version_chain.specs.Flush.{Plan, Base, StartsAtRoot, GivesNext, base_of}
+use Rattle.version_chain.specs.Flush.{Plan, StartsAtRoot, GivesNext, base_of}
 use Rattle.version_chain.proofs.Written.{get_more}
 use Rattle.pool_draft.specs.declared.pool_set.PoolSet.{PoolSet}
 use Rattle.pool_draft.specs.Roots.{root_in, object_in, serial_in}
-use Rattle.pool_draft.specs.Sets.{AreSameDrafts, picked_of, roots_of, view_at}
-use Rattle.joint_flush.specs.Joint.{Joint, Part, base_in, paths_at, pages_in, IsReadyNumber, IsUnbegun, IsJoint, top_of, current_of, AreHeldBlocks, IsReadyJoint, IsPlanned, IsNextPlan, IsOver, IsMoved, MovesOn}
+use Rattle.pool_draft.specs.Sets.{AreSameDrafts, picked_of, view_at}
+use Rattle.joint_flush.specs.Joint.{Joint, Part, base_in, paths_at, pages_in, IsReadyNumber, IsUnbegun, IsJoint, top_of, current_of, AreHeldBlocks, IsReadyJoint, IsNextPlan, IsOver, MovesOn}
 use Rattle.joint_flush.proofs.Fresh.{same_paths}
-use Rattle.joint_flush.proofs.Staying.{holds_itself, joint_stays, numbers_stay, pages_same, ready_stays, same_base, within_drop, within_ready}
+use Rattle.joint_flush.proofs.Staying.{holds_itself, joint_stays, numbers_stay, pages_same, ready_stays, same_base, within_ready}
 use Rattle.joint_flush.proofs.Readying.{count_more, part_size, ready_moved, ready_plan, room_moved, with_plan}
 use Rattle.joint_flush.proofs.Stepping.{gives_as}
 use Rattle.joint_flush.proofs.Laying.{first_block, lay}
@@ -109,9 +109,11 @@ picked_gives old mid j plan block bytes same picked gives =
 pub gives_now : (old mid : PoolSet) (was j : Joint) (plan : Plan) (block : ℕ) (bytes : List ℕ) → was ≡ j → AreSameDrafts old mid → picked_of mid ≡ current_of j
     → GivesNext (view_at mid (picked_of mid)) (base_in mid (picked_of mid)) was.flush plan block bytes
     → (x : Plan) × GivesNext (view_at old (current_of j)) (base_in old (current_of j)) j.flush x block bytes
-gives_now old mid was j plan block bytes is same picked gives =
-    (plan, picked_gives old mid j plan block bytes same picked
-    (subst (λ (k : Joint). GivesNext (view_at mid (picked_of mid)) (base_in mid (picked_of mid)) k.flush plan block bytes) is gives))
+gives_now old mid was j plan block bytes is same picked gives = (
+  plan,
+  picked_gives old mid j plan block bytes same picked
+      (subst (λ (k : Joint). GivesNext (view_at mid (picked_of mid)) (base_in mid (picked_of mid)) k.flush plan block bytes) is gives),
+)
 
 -- it stays ready, with another plan of the same places
 pub ready_next : (old mid : PoolSet) (states : List BlockState) (client : ℕ) (j : Joint) (plan : Plan) → AreSameDrafts old mid → plan.placed ≡ j.flush.placed → IsReadyJoint old states client j

@@ -1,16 +1,15 @@
 -- A commit is ready for its next block: as it stands, after one block more, and behind a file that is over.
-use Rattle.std.proofs.Common.{◌≡◌, ℕ, zero, suc, ◌+◌, ◌<◌, ◌≤◌, List, [], ◌∷◌, ◌++◌, map, drop, length, refl, sym, ap, subst, ◌∙◌, Option, Some, None, MatchOption, option_map, arith, slice_get, add-one}
+use Rattle.std.proofs.Common.{◌≡◌, ℕ, suc, ◌+◌, ◌<◌, ◌≤◌, List, [], ◌∷◌, ◌++◌, map, drop, length, refl, sym, ap, subst, ◌∙◌, Option, Some, None, MatchOption, option_map, arith, slice_get}
 use Rattle.std.specs.Prelude.{slice_index}
 use Rattle.std.specs.Option.{option_map_or}
 use Rattle.std.specs.List.{AllByRecursion}
-use Rattle.std.proofs.lemmas.List.{length-map}
 use Rattle.block_map.specs.States.{held_count}
 use Rattle.block_map.specs.declared.states.BlockState.{BlockState}
 use Rattle.page_codec.specs.Values.{MemberValue}
 use Rattle.draft_model.specs.Flush.{Placed, IsPlaced}
 use Rattle.version_chain.specs.Flush.{Plan, AreHeld, StartsAtRoot, paths_of}
 use Rattle.pool_draft.specs.declared.pool_set.PoolSet.{PoolSet}
-use Rattle.pool_draft.specs.Sets.{roots_of, view_at}
+use Rattle.pool_draft.specs.Sets.{view_at}
 use Rattle.joint_flush.specs.Joint.{Joint, Part, paths_at, pages_in, IsReadyNumber, IsPart, AreHeldInTurn, AreParts, IsJoint, HasCome, top_of, current_of, AreHeldBlocks, IsReadyJoint, IsPlanned, IsNextPlan, IsOver, IsMoved}
 use Rattle.joint_flush.proofs.Blocks.{held_room}
 use Rattle.joint_flush.proofs.Lists.{number_of, number_at, each_at, get_behind, drop_behind, drop_at}

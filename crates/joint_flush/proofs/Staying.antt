@@ -1,9 +1,8 @@
 -- What stays of a commit where the drafts are the same, and the client holds the same blocks.
-use Rattle.std.proofs.Common.{◌≡◌, ℕ, ◌+◌, ◌<◌, ◌≤◌, ◌^◌, List, [], ◌∷◌, drop, length, refl, sym, ap, subst, ◌∙◌, Option, Some, arith, slice_get, suc, zero}
+use Rattle.std.proofs.Common.{◌≡◌, ℕ, ◌+◌, ◌<◌, ◌^◌, List, [], ◌∷◌, drop, length, refl, sym, ap, subst, ◌∙◌, Option, arith, slice_get, suc, zero}
 use Rattle.std.specs.Prelude.{slice_index}
 use Rattle.std.specs.Option.{option_map_or}
 use Rattle.std.specs.List.{AllByRecursion}
-use Rattle.block_map.specs.States.{held_count, state_at}
 use Rattle.block_map.specs.declared.states.BlockState.{BlockState}
 use Rattle.block_map.specs.declared.states.BlockState.TheVariants.{Held}
 use Rattle.page_codec.specs.Values.{MemberValue}

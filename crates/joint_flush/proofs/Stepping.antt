@@ -1,20 +1,20 @@
 -- One block more of a commit: which part it is of, and what the parts are behind it.
-use Rattle.std.proofs.Common.{◌≡◌, ◌≢◌, ℕ, zero, suc, ◌+◌, ◌<◌, ◌≤◌, List, [], ◌∷◌, ◌++◌, map, length, ◌⊎◌, inl, inr, refl, sym, ap, subst, ◌∙◌, Option, Some, None, MatchOption, option_map, arith, slice_get, slice_set, add-one}
+use Rattle.std.proofs.Common.{◌≡◌, ◌≢◌, ℕ, suc, ◌+◌, List, [], ◌∷◌, ◌++◌, map, length, inl, inr, refl, sym, ap, subst, ◌∙◌, Option, Some, None, MatchOption, option_map, arith, slice_get, slice_set, add-one}
 use Rattle.std.specs.Prelude.{slice_index}
 use Rattle.std.specs.Option.{option_map_or}
 use Rattle.std.specs.List.{AllByRecursion}
 use Rattle.block_map.specs.declared.states.BlockState.{BlockState}
 use Rattle.page_codec.specs.Values.{MemberValue}
 use Rattle.draft_model.specs.Views.{View}
-use Rattle.draft_model.specs.Flush.{Placed, block_of}
+use Rattle.draft_model.specs.Flush.{block_of}
 use Rattle.version_chain.specs.Flush.{Plan, Base, base_of, AreHeld, GivesNext}
 use Rattle.pool_draft.specs.declared.pool_set.PoolSet.{PoolSet}
 use Rattle.pool_draft.specs.Roots.{root_in, object_in, serial_in}
 use Rattle.pool_draft.specs.Sets.{AreSameDrafts, base_at, picked_of, view_at}
-use Rattle.joint_flush.specs.Joint.{Joint, Part, base_in, IsPart, IsNamed, AreNamed, IsWhole, HasCome, AreParts, IsJoint, GivesPart, IsAllGiven, current_of, IsPlanned, IsNextPlan, IsOver, IsMoved, MovesOn}
+use Rattle.joint_flush.specs.Joint.{Joint, Part, base_in, IsPart, IsNamed, AreNamed, IsWhole, HasCome, AreParts, IsJoint, GivesPart, current_of, IsPlanned, IsNextPlan, IsOver, IsMoved, MovesOn}
 use Rattle.joint_flush.proofs.Blocks.{same_places}
 use Rattle.joint_flush.proofs.Lists.{number_of, each_at, each_set, number_at, numbers_set, count_numbers, found_within, none_past, get_behind}
-use Rattle.joint_flush.proofs.Coming.{more_plan, more, IsCurrent, IsComing, come_current, come_next, come_named, come_top, named_same, top_more, part_more, ComesNext, part_over, held_behind, held_set, named_set}
+use Rattle.joint_flush.proofs.Coming.{more_plan, more, IsCurrent, come_current, come_next, come_named, come_top, named_same, top_more, part_more, ComesNext, part_over, held_behind, held_set, named_set}
 use Rattle.joint_flush.proofs.Staying.{holds_itself, joint_stays, same_base}
 use Rattle.joint_flush.proofs.Readying.{count_more, number_current, part_some, part_with, with_plan}
 

@@ -1,4 +1,4 @@
-use Rattle.std.proofs.Common.{◌≡◌, ℕ, List, length, ap, ◌∙◌}
+use Rattle.std.proofs.Common.{ℕ, List, length, ap, ◌∙◌}
 use Rattle.std.specs.Prelude.{max}
 use Rattle.draft_model.specs.Entries.{fresh_paths}
 use Rattle.pool_draft.specs.Held.{picked_tree}

@@ -1,4 +1,4 @@
-use Rattle.std.proofs.Common.{◌≡◌, ℕ, List, length, sym, ap, ◌∙◌, arith}
+use Rattle.std.proofs.Common.{ℕ, List, length, ap, ◌∙◌, arith}
 use Rattle.joint_flush.proofs.Fresh.{part_at, picked_paths}
 use Rattle.joint_flush.proofs.planning.plan_of.Goals as goal
 

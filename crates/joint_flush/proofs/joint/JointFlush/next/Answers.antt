@@ -1,4 +1,4 @@
-use Rattle.std.proofs.Common.{sym, ap, subst, refl, ◌∙◌}
+use Rattle.std.proofs.Common.{sym, ap, subst, ◌∙◌}
 use Rattle.joint_flush.specs.Joint.{Joint, IsJoint, IsReadyJoint, current_of}
 use Rattle.joint_flush.proofs.Moving.{gives_now, picked_placed, ready_moves, ready_next, turn_held}
 use Rattle.joint_flush.proofs.Stepping.{all_given, gives_part, same_then}

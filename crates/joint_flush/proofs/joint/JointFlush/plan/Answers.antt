@@ -1,4 +1,4 @@
-use Rattle.std.proofs.Common.{◌≡◌, ◌+◌, ◌≤◌, List, ℕ, [], drop, length, sym, ap, subst, refl, ◌∙◌}
+use Rattle.std.proofs.Common.{◌+◌, ◌≤◌, List, ℕ, [], drop, length, sym, ap, subst, ◌∙◌}
 use Rattle.std.specs.Prelude.{slice_index}
 use Rattle.page_codec.specs.Values.{MemberValue}
 use Rattle.block_map.specs.States.{held_count}
