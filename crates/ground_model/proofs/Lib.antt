@@ -72,3 +72,4 @@ pub mod SeveralScenes
 pub mod SeveralHeads
 pub mod SeveralCommit
 pub mod SeveralTurns
+pub mod SeveralAnswers

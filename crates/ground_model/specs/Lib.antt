@@ -33,3 +33,4 @@ pub mod Linking
 pub mod Rolling
 pub mod Several
 pub mod SeveralTurns
+pub mod SeveralAnswers

@@ -1,6 +1,7 @@
 ghost use Rattle.std.specs.Prelude.{◌≡◌};
 ghost use Rattle.ground_model.specs.Linking.{LinksStay};
 ghost use Rattle.ground_model.specs.Several.{CommitLinksSeveral, SeveralAreLast};
+ghost use Rattle.ground_model.specs.SeveralAnswers.{AnsweredTopStands};
 ghost use Rattle.ground_model.specs.SeveralTurns.{HeldAreApart, SeveralAreTested, SeveralStop};
 ghost use Rattle.ground_model.specs.SeveralTurns.{SeveralTurnStands};
 
@@ -19,6 +20,12 @@ pub fn commit_links_several()
 /// Runs nothing. Its contract: a run stands after the turn that sets that link.
 pub fn several_turn_stands<B: Blocks>()
     ensures { B.tells → SeveralTurnStands B.Blocks }
+{}
+
+/// Runs nothing. Its contract: so it does where the first file alone gets a new version and the
+/// commit is answered in that turn.
+pub fn answered_top_stands<B: Blocks>()
+    ensures { B.tells → AnsweredTopStands B.Blocks }
 {}
 
 /// Runs nothing. Its contract says what a test-and-set of that link came to: it was set, or a half
