@@ -72,4 +72,6 @@ pub mod SeveralScenes
 pub mod SeveralHeads
 pub mod SeveralCommit
 pub mod SeveralTurns
+pub mod HeldStays
 pub mod SeveralAnswers
+pub mod SeveralFacts

@@ -34,3 +34,4 @@ pub mod Rolling
 pub mod Several
 pub mod SeveralTurns
 pub mod SeveralAnswers
+pub mod SeveralFacts

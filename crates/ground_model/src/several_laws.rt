@@ -2,6 +2,11 @@ ghost use Rattle.std.specs.Prelude.{◌≡◌};
 ghost use Rattle.ground_model.specs.Linking.{LinksStay};
 ghost use Rattle.ground_model.specs.Several.{CommitLinksSeveral, SeveralAreLast};
 ghost use Rattle.ground_model.specs.SeveralAnswers.{AnsweredTopStands};
+ghost use Rattle.ground_model.specs.SeveralFacts.{DraftFlags, DraftPages, FlagsTell};
+ghost use Rattle.ground_model.specs.SeveralFacts.{FlushStaysBeside, HeldFromStays, HeldStays};
+ghost use Rattle.ground_model.specs.SeveralFacts.{LeftHoldsAlike, NeedIsPlaced, NeedOfSeveral};
+ghost use Rattle.ground_model.specs.SeveralFacts.{PlacesOfDraft, RenewedAreLeft};
+ghost use Rattle.ground_model.specs.SeveralFacts.{RenewedAreNumbered, RenewedStay};
 ghost use Rattle.ground_model.specs.SeveralTurns.{HeldAreApart, SeveralAreTested, SeveralStop};
 ghost use Rattle.ground_model.specs.SeveralTurns.{SeveralTurnStands};
 
@@ -44,4 +49,32 @@ pub fn several_are_in_doubt<B: Blocks>()
 /// left it what it relies on.
 pub fn links_stay()
     ensures { LinksStay }
+{}
+
+/// Runs nothing. Its contract says what the drafts of an update of several files tell of it: which
+/// files get a new version, and how many blocks it needs.
+pub fn several_are_told()
+    ensures draft { DraftFlags }
+    ensures flags { FlagsTell }
+    ensures numbers { RenewedAreNumbered }
+    ensures pages { DraftPages }
+    ensures places { PlacesOfDraft }
+    ensures need { NeedOfSeveral }
+    ensures placed { NeedIsPlaced }
+{}
+
+/// Runs nothing. Its contract: the flush of one file is what it was after a page of another one's
+/// was written, flushes that are done stay done, and so they do where another client had its turn.
+pub fn flushes_stay_beside()
+    ensures beside { FlushStaysBeside }
+    ensures done { RenewedStay }
+    ensures left { RenewedAreLeft }
+{}
+
+/// Runs nothing. Its contract: where a client holds the same blocks in two maps, as it does after
+/// another one's turn, the places of its flushes are those blocks in both, counted upwards.
+pub fn held_blocks_stay()
+    ensures left { LeftHoldsAlike }
+    ensures one { HeldStays }
+    ensures all { HeldFromStays }
 {}
