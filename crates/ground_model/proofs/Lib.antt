@@ -75,3 +75,4 @@ pub mod SeveralTurns
 pub mod HeldStays
 pub mod SeveralAnswers
 pub mod SeveralFacts
+pub mod SeveralWriting

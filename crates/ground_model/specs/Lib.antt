@@ -35,3 +35,4 @@ pub mod Several
 pub mod SeveralTurns
 pub mod SeveralAnswers
 pub mod SeveralFacts
+pub mod SeveralWriting

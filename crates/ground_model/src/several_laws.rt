@@ -9,6 +9,8 @@ ghost use Rattle.ground_model.specs.SeveralFacts.{PlacesOfDraft, RenewedAreLeft}
 ghost use Rattle.ground_model.specs.SeveralFacts.{RenewedAreNumbered, RenewedStay};
 ghost use Rattle.ground_model.specs.SeveralTurns.{HeldAreApart, SeveralAreTested, SeveralStop};
 ghost use Rattle.ground_model.specs.SeveralTurns.{SeveralTurnStands};
+ghost use Rattle.ground_model.specs.SeveralWriting.{DoneBegins, DoneGoesOn, DoneIsLeft};
+ghost use Rattle.ground_model.specs.SeveralWriting.{DoneIsWritten, DoneStays};
 
 use pair_store::Blocks;
 
@@ -77,4 +79,15 @@ pub fn held_blocks_stay()
     ensures left { LeftHoldsAlike }
     ensures one { HeldStays }
     ensures all { HeldFromStays }
+{}
+
+/// Runs nothing. Its contract says how the files of an update of several files are written, one
+/// after the other: one more flush is done, those that are done stay so, and where that of the first
+/// file is done too all files are written.
+pub fn files_are_written()
+    ensures begins { DoneBegins }
+    ensures on { DoneGoesOn }
+    ensures stays { DoneStays }
+    ensures left { DoneIsLeft }
+    ensures all { DoneIsWritten }
 {}
