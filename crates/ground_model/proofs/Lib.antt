@@ -76,3 +76,4 @@ pub mod HeldStays
 pub mod SeveralAnswers
 pub mod SeveralFacts
 pub mod SeveralWriting
+pub mod SeveralDecisions

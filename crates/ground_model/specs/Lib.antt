@@ -36,3 +36,4 @@ pub mod SeveralTurns
 pub mod SeveralAnswers
 pub mod SeveralFacts
 pub mod SeveralWriting
+pub mod SeveralDecisions

@@ -4,6 +4,7 @@
 #![tactic(auto)]
 
 mod bound_laws;
+mod deciding_laws;
 mod laws;
 mod line_laws;
 mod link_laws;
@@ -14,6 +15,7 @@ mod several_laws;
 mod walk_laws;
 
 pub use bound_laws::{bounds_are_small, turns_are_bounded};
+pub use deciding_laws::{several_are_answered, several_are_based, several_are_decided};
 pub use laws::{
     answered_link_stands, causes_are, commit_links, commits_are_noted, drafts_go_on, end_is_noted,
     flushes_go_on, free_is_counted, heads_tell, held_write_leads, left_is_kept, line_step_leads,
