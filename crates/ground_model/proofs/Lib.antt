@@ -77,3 +77,4 @@ pub mod SeveralAnswers
 pub mod SeveralFacts
 pub mod SeveralWriting
 pub mod SeveralDecisions
+pub mod LinksLeft

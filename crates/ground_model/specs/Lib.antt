@@ -37,3 +37,4 @@ pub mod SeveralAnswers
 pub mod SeveralFacts
 pub mod SeveralWriting
 pub mod SeveralDecisions
+pub mod LinksLeft

@@ -34,7 +34,7 @@ pub use opening_laws::{
 };
 pub use page_laws::blocks_show_pages;
 pub use rolling_laws::{
-    links_are_left, links_roll, rolling_stops, rolling_turns_stand, rolls_come_to,
+    all_are_left, links_are_left, links_roll, rolling_stops, rolling_turns_stand, rolls_come_to,
 };
 pub use several_laws::{
     answered_top_stands, commit_links_several, files_are_written, flushes_stay_beside,

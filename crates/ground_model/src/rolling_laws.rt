@@ -1,3 +1,6 @@
+ghost use Rattle.ground_model.specs.LinksLeft.{AnswerLeavesAll, AnsweredTopLeavesAll};
+ghost use Rattle.ground_model.specs.LinksLeft.{CommitLeavesAll, LeavesAllGoOn, LeftLinksStay};
+ghost use Rattle.ground_model.specs.LinksLeft.{LinkLeavesAll, MarkLeavesAll, MovedLeavesAll};
 ghost use Rattle.ground_model.specs.Rolling.{AnswerJoins, AnswerTurnStands};
 ghost use Rattle.ground_model.specs.Rolling.{AnsweredClearingStands, CommitLeavesLinks};
 ghost use Rattle.ground_model.specs.Rolling.{ClearingStops, ClearingTurnStands, LinkIsSet};
@@ -49,4 +52,19 @@ pub fn rolling_stops<B: Blocks>()
 pub fn links_are_left()
     ensures same { SameStoreLeavesLinks }
     ensures commit { CommitLeavesLinks }
+{}
+
+/// Runs nothing. Its contract: each kind of turn leaves every other client what it relies on and
+/// the links that it sets: a turn by which the store is the same, the links of commits of one file
+/// and of several, and the turns after these. `on` says so of turns that follow one another, and
+/// `stay` that a client sets the same links then.
+pub fn all_are_left<B: Blocks>()
+    ensures on { LeavesAllGoOn }
+    ensures stay { LeftLinksStay }
+    ensures moved { MovedLeavesAll }
+    ensures link { LinkLeavesAll B.Blocks }
+    ensures commit { CommitLeavesAll }
+    ensures top { AnsweredTopLeavesAll }
+    ensures mark { MarkLeavesAll }
+    ensures answer { AnswerLeavesAll }
 {}
