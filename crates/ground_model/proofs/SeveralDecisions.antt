@@ -1,9 +1,11 @@
 -- What the code of a commit of several files knows of what stands, and what follows.
-use Rattle.std.proofs.Common.{Contains, ◌≡◌, ◌⊎◌, inl, inr, ℕ, ◌+◌, ◌-◌, ◌<◌, ◌==◌, ◌^◌, ◌||◌, ◌&&◌, true, false, cond, List, [], ◌∷◌, map, filter, Option, Some, refl, sym, ap, ◌∙◌, subst, eq-eqb, eqb-true, true≢false}
-use Rattle.std.specs.Prelude.{IsSomeAnd, IsTrue, find, if◌then◌else◌}
+use Rattle.std.proofs.Common.{Contains, ◌≡◌, ◌⊎◌, inl, inr, ℕ, zero, suc, ◌+◌, ◌-◌, ◌<◌, ◌==◌, ◌^◌, ◌||◌, ◌&&◌, true, false, cond, List, [], ◌∷◌, map, filter, Option, Some, refl, sym, ap, ◌∙◌, subst, eq-eqb, eqb-true, true≢false, slice_get}
+use Rattle.std.specs.Prelude.{IsSomeAnd, IsTrue, find, if◌then◌else◌, option_map}
 use Rattle.std.specs.List.{list_any}
 use Rattle.std.specs.Option.{option_map_or}
 use Rattle.std.proofs.lemmas.Bool.{cases_Bool, false_from_ne_true, or_parts}
+use Rattle.std.proofs.lemmas.List.{length-map}
+use Rattle.std.proofs.lemmas.Option.{slice_get-map}
 use Rattle.script_text.specs.declared.script.Line.{Line}
 use Rattle.service_model.specs.declared.journal.Refusal.{Refusal}
 use Rattle.service_model.specs.declared.journal.What.TheVariants as what
@@ -16,9 +18,10 @@ use Rattle.service_model.specs.Sound.{is_committing}
 use Rattle.service_model.specs.Standing.{Scripts, Standing, Update, Work, has_writes, is_written, renewed_works, serial_of, top_and_written}
 use Rattle.service_model.proofs.Committing.{renewed_in}
 use Rattle.service_model.proofs.Members.{all_in, at_place, from_any, from_filtered, from_place, front_or_rest, in_any, in_filtered, in_front, in_mapped, in_rest, none_in}
+use Rattle.store_model.proofs.Edits.{none_some, some_is}
 use Rattle.tree_model.specs.States.{State}
 use Rattle.ground_model.specs.CommitLines.{IsCommitting}
-use Rattle.ground_model.specs.SeveralDecisions.{IsUndecidedOf, MayCommitSeveralIs, RefusableGivesBack, RefusableIsNoted, SerialsOfEmpty, SerialsOfSeveral, SeveralAreBased, SeveralAreUnworn, SeveralAreWorn, serial_after, serials_after}
+use Rattle.ground_model.specs.SeveralDecisions.{IsUndecidedOf, MayCommitSeveralIs, RefusableGivesBack, RefusableIsNoted, SerialsAreAt, SerialsOfEmpty, SerialsOfSeveral, SeveralAreBased, SeveralAreUnworn, SeveralAreWorn, serial_after, serial_at, serials_after}
 use Rattle.ground_model.proofs.CommitLines.{refusal_is_noted}
 use Rattle.ground_model.proofs.LineTurns.{refusal_gives_back}
 
@@ -172,6 +175,14 @@ serials_of_several scripts s k line u sound may =
         → map (serial_by (map (named s.state) (top_and_written ws))) ws ≡ serials_after ws
     by [] differ last = refl
     by (w ∷ ws) differ last = serials_are s.state w ws differ last
+
+pub serials_are_at : SerialsAreAt
+serials_are_at [] = (refl, λ i w at. none_some at)
+serials_are_at (x ∷ ws) = (ap suc (length-map ws serial_after), each)
+  where
+    each : (i : ℕ) (w : Work) → slice_get (x ∷ ws) i ≡ Some w → slice_get (serials_after (x ∷ ws)) i ≡ Some (serial_at i w)
+    each zero w at = ap (λ (y : Work). Some (y.serial + 1)) (some_is at)
+    each (suc i) w at = slice_get-map serial_after ws i ∙ ap (option_map serial_after) at
 
 pub serials_of_empty : SerialsOfEmpty
 serials_of_empty u = refl

@@ -20,7 +20,7 @@ use Rattle.version_chain.specs.Flush.{AreHeld, base_of}
 use Rattle.ground_model.specs.Own.{HasDraft}
 use Rattle.ground_model.specs.Scenes.{Scene}
 use Rattle.ground_model.specs.Several.{Renewal, places_of, works_of}
-use Rattle.ground_model.specs.SeveralFacts.{AreBeside, DraftFlags, DraftPages, FlagsTell, FlushStaysBeside, HeldFromStays, HeldStays, IsFlagged, LeftHoldsAlike, NeedIsPlaced, NeedOfSeveral, PlacesOfDraft, RenewedAreLeft, RenewedAreNumbered, RenewedStay, flagged, numbers_from, pages_in}
+use Rattle.ground_model.specs.SeveralFacts.{AreBeside, CountsGoOn, DraftFlags, DraftPages, FlagsAreTold, FlagsTell, FlushStaysBeside, HeldFromStays, HeldStays, IsFlagged, LeftHoldsAlike, NeedIsPlaced, NeedOfSeveral, NumbersGoOn, PlacesOfDraft, RenewedAreLeft, RenewedAreNumbered, RenewedStay, flagged, numbers_from, pages_in}
 use Rattle.ground_model.proofs.Steps.{left_is_kept}
 use Rattle.ground_model.proofs.Drafting.{draft_stays_own}
 use Rattle.ground_model.proofs.HeldStays.{held_stay}
@@ -96,6 +96,39 @@ renewed_are_numbered u w ws first flags is writes =
 
 pub draft_flags : DraftFlags
 draft_flags scene w root d told draft tells = sym (tells (pages_of scene.content) root w.base w.steps draft.stands)
+
+-- ---- one file after the other
+
+pub flags_are_told : FlagsAreTold
+flags_are_told [] [] long each = refl
+flags_are_told [] (f ∷ flags) long each = absurd (omega (arith, long))
+flags_are_told (w ∷ ws) [] long each = absurd (omega (arith, long))
+flags_are_told (w ∷ ws) (f ∷ flags) long each =
+    ap (λ b. b ∷ map is_written ws) (each zero w f refl refl)
+    ∙ ap (λ l. f ∷ l) (flags_are_told ws flags (omega (arith, long)) (λ i x g at to. each (suc i) x g at to))
+
+-- a number counts from one less by one flag more
+behind : (n : ℕ) (flags : List Bool) (f : Bool) (front : List ℕ)
+    → front ++ (if f then (n + 1 + length flags) ∷ [] else []) ≡ front ++ (if f then (n + suc (length flags)) ∷ [] else [])
+behind n flags f front = ap (λ m. front ++ (if f then m ∷ [] else [])) (omega arith)
+
+pub numbers_go_on : NumbersGoOn
+numbers_go_on n [] true = ap (λ m. m ∷ []) (omega arith)
+numbers_go_on n [] false = refl
+numbers_go_on n (true ∷ flags) f = ap (λ l. n ∷ l) (numbers_go_on (n + 1) flags f ∙ behind n flags f (numbers_from (n + 1) flags))
+numbers_go_on n (false ∷ flags) f = numbers_go_on (n + 1) flags f ∙ behind n flags f (numbers_from (n + 1) flags)
+
+pub counts_go_on : CountsGoOn
+counts_go_on [] [] count true long = sum_by-cons (λ (n : ℕ). n) count [] ∙ (let same : count + 0 ≡ 0 + count = omega arith in same)
+counts_go_on [] [] count false long = refl
+counts_go_on [] (g ∷ flags) count f long = absurd (omega (arith, long))
+counts_go_on (n ∷ counts) [] count f long = absurd (omega (arith, long))
+counts_go_on (n ∷ counts) (true ∷ flags) count f long =
+    let rest = counts_go_on counts flags count f (omega (arith, long)) in
+    let all = sum_by-cons (λ (m : ℕ). m) n (flagged (counts ++ count ∷ []) (flags ++ f ∷ [])) in
+    let front = sum_by-cons (λ (m : ℕ). m) n (flagged counts flags) in
+    omega (arith, rest, all, front)
+counts_go_on (n ∷ counts) (false ∷ flags) count f long = counts_go_on counts flags count f (omega (arith, long))
 
 -- ---- how many blocks it needs
 

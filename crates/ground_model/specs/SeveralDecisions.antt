@@ -1,7 +1,7 @@
 -- What the code of a commit of several files knows of what stands, and what follows: from which
 -- versions it began, for which causes it is refused, that it may be committed, and its answer.
-use Rattle.std.specs.Prelude.{◌≡◌, ℕ, ◌+◌, ◌-◌, ◌<◌, ◌^◌, true, false, List, [], ◌∷◌, map}
-use Rattle.std.specs.Prelude.{Some, None, if◌then◌else◌, slice_get}
+use Rattle.std.specs.Prelude.{◌≡◌, ℕ, zero, suc, ◌+◌, ◌-◌, ◌<◌, ◌^◌, true, false, List, []}
+use Rattle.std.specs.Prelude.{◌∷◌, map, length, Some, None, if◌then◌else◌, slice_get}
 use Rattle.std.specs.List.{list_any}
 use Rattle.block_map.specs.States.{Replaces}
 use Rattle.block_map.specs.declared.states.BlockState.{BlockState}
@@ -108,6 +108,18 @@ serial_after w = if is_written w then w.serial + 1 else w.serial
 abbrev pub serials_after : List Work → List ℕ
 serials_after [] = []
 serials_after (w ∷ ws) = (w.serial + 1) ∷ map serial_after ws
+
+-- Each file has its serial at its place.
+abbrev pub serial_at : ℕ → Work → ℕ
+serial_at zero w = w.serial + 1
+serial_at (suc i) w = serial_after w
+
+abbrev pub SerialsAreAt : Type 0
+SerialsAreAt =
+    (ws : List Work)
+    → (length (serials_after ws) ≡ length ws)
+    × ((i : ℕ) (w : Work) → slice_get ws i ≡ Some w
+    → slice_get (serials_after ws) i ≡ Some (serial_at i w))
 
 -- The commit of an update of several files with writes is answered by these,
 abbrev pub SerialsOfSeveral : Type 0

@@ -1,6 +1,6 @@
 -- What the drafts of an update of several files tell of it before it is committed, and that the
 -- flush of one file is left by the writes of another one's.
-use Rattle.std.specs.Prelude.{◌≡◌, ◌⊎◌, ℕ, ◌+◌, ◌≤◌, Bool, true, false, ◌||◌, List, [], ◌∷◌}
+use Rattle.std.specs.Prelude.{◌≡◌, ◌⊎◌, ℕ, ◌+◌, ◌≤◌, Bool, true, false, ◌||◌, List, [], ◌∷◌, ◌++◌}
 use Rattle.std.specs.Prelude.{length, map, Some, if◌then◌else◌, slice_get, sum_by}
 use Rattle.std.specs.List.{AllByRecursion, list_any}
 use Rattle.block_map.specs.States.{state_at, held_count}
@@ -64,6 +64,30 @@ RenewedAreNumbered =
     → (length (renewed_works u) ≡ length (0 ∷ numbers_from 1 flags))
     × ((i n : ℕ) → slice_get (0 ∷ numbers_from 1 flags) i ≡ Some n
     → (x : Work) × (slice_get u.works n ≡ Some x) × (slice_get (renewed_works u) i ≡ Some x))
+
+-- ---- one file after the other
+
+-- Flags that tell of each file whether something was written to it tell so of all.
+abbrev pub FlagsAreTold : Type 0
+FlagsAreTold =
+    (ws : List Work) (flags : List Bool) → length flags ≡ length ws
+    → ((i : ℕ) (w : Work) (f : Bool) → slice_get ws i ≡ Some w → slice_get flags i ≡ Some f
+    → is_written w ≡ f)
+    → map is_written ws ≡ flags
+
+-- By one flag more there is one number more, or none,
+abbrev pub NumbersGoOn : Type 0
+NumbersGoOn =
+    (n : ℕ) (flags : List Bool) (f : Bool)
+    → numbers_from n (flags ++ f ∷ [])
+    ≡ numbers_from n flags ++ (if f then (n + length flags) ∷ [] else [])
+
+-- and one count more of those whose flag is set.
+abbrev pub CountsGoOn : Type 0
+CountsGoOn =
+    (counts : List ℕ) (flags : List Bool) (count : ℕ) (f : Bool) → length counts ≡ length flags
+    → sum_by (λ n. n) (flagged (counts ++ count ∷ []) (flags ++ f ∷ []))
+    ≡ sum_by (λ n. n) (flagged counts flags) + (if f then count else 0)
 
 -- ---- how many blocks it needs
 

@@ -1,6 +1,7 @@
 ghost use Rattle.std.specs.Prelude.{◌≡◌};
 ghost use Rattle.ground_model.specs.SeveralDecisions.{MayCommitSeveralIs, RefusableGivesBack};
-ghost use Rattle.ground_model.specs.SeveralDecisions.{RefusableIsNoted, SerialsOfEmpty};
+ghost use Rattle.ground_model.specs.SeveralDecisions.{RefusableIsNoted, SerialsAreAt};
+ghost use Rattle.ground_model.specs.SeveralDecisions.{SerialsOfEmpty};
 ghost use Rattle.ground_model.specs.SeveralDecisions.{SerialsOfSeveral, SeveralAreBased};
 ghost use Rattle.ground_model.specs.SeveralDecisions.{SeveralAreUnworn, SeveralAreWorn};
 
@@ -22,8 +23,9 @@ pub fn several_are_decided()
 {}
 
 /// Runs nothing. Its contract says by which serials the commit of an update of several files is
-/// answered, and that of an update without writes.
+/// answered, and that of an update without writes. `at` says which one each file has.
 pub fn several_are_answered()
     ensures written { SerialsOfSeveral }
     ensures empty { SerialsOfEmpty }
+    ensures at { SerialsAreAt }
 {}

@@ -38,7 +38,7 @@ pub use rolling_laws::{
 };
 pub use several_laws::{
     answered_top_stands, commit_links_several, files_are_written, flushes_stay_beside,
-    held_blocks_stay, links_stay, several_are_in_doubt, several_are_tested, several_are_told,
-    several_turn_stands,
+    held_blocks_stay, links_stay, several_are_counted, several_are_in_doubt, several_are_tested,
+    several_are_told, several_turn_stands,
 };
 pub use walk_laws::{versions_are_ahead, walks_are_left, walks_stay, walks_take_turns};

@@ -2,7 +2,8 @@ ghost use Rattle.std.specs.Prelude.{◌≡◌};
 ghost use Rattle.ground_model.specs.Linking.{LinksStay};
 ghost use Rattle.ground_model.specs.Several.{CommitLinksSeveral, SeveralAreLast};
 ghost use Rattle.ground_model.specs.SeveralAnswers.{AnsweredTopStands};
-ghost use Rattle.ground_model.specs.SeveralFacts.{DraftFlags, DraftPages, FlagsTell};
+ghost use Rattle.ground_model.specs.SeveralFacts.{CountsGoOn, DraftFlags, DraftPages};
+ghost use Rattle.ground_model.specs.SeveralFacts.{FlagsAreTold, FlagsTell, NumbersGoOn};
 ghost use Rattle.ground_model.specs.SeveralFacts.{FlushStaysBeside, HeldFromStays, HeldStays};
 ghost use Rattle.ground_model.specs.SeveralFacts.{LeftHoldsAlike, NeedIsPlaced, NeedOfSeveral};
 ghost use Rattle.ground_model.specs.SeveralFacts.{PlacesOfDraft, RenewedAreLeft};
@@ -65,6 +66,14 @@ pub fn several_are_told()
     ensures placed { NeedIsPlaced }
 {}
 
+/// Runs nothing. Its contract says so file by file: flags that tell of each file tell of all, and
+/// by one flag more there is one number more, and one count more of those that are set.
+pub fn several_are_counted()
+    ensures told { FlagsAreTold }
+    ensures numbers { NumbersGoOn }
+    ensures counts { CountsGoOn }
+{}
+
 /// Runs nothing. Its contract: the flush of one file is what it was after a page of another one's
 /// was written, flushes that are done stay done, and so they do where another client had its turn.
 pub fn flushes_stay_beside()
@@ -82,8 +91,8 @@ pub fn held_blocks_stay()
 {}
 
 /// Runs nothing. Its contract says how the files of an update of several files are written, one
-/// after the other: one more flush is done, those that are done stay so, and where that of the first
-/// file is done too all files are written.
+/// after the other: one more flush is done, those that are done stay so, and where that of the
+/// first file is done too all files are written.
 pub fn files_are_written()
     ensures begins { DoneBegins }
     ensures on { DoneGoesOn }
