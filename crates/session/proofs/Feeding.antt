@@ -19,7 +19,7 @@ use Rattle.ground_model.specs.Scenes.{Scene, IsShared}
 use Rattle.ground_model.specs.Shows.{ShowsPage}
 use Rattle.ground_model.proofs.Ahead.{walk_feeds}
 use Rattle.ground_model.proofs.Shows.{needed_shows}
-use Rattle.session.specs.Calls.{IsIn, IsReady, IsWorkOf, TurnCall}
+use Rattle.session.specs.Calls.{IsIn, IsReady, TurnCall, waiting_in}
 use Rattle.session.specs.Own.{IsWalkingBy, IsWalkingOn}
 use Rattle.session.specs.Reads.{IsPageOf, ReadCall}
 use Rattle.session.specs.Safe.{AreSafeDrafts, HasDraftIn, IsSafe, IsSafeStage, root_of, view_of}
@@ -124,4 +124,4 @@ module _ {D : Type 0} (b : Ghosts D) (script : ScriptValue) (c c' : Common D) (s
         (λ told opening scripts first scene is.
         under_way_goes b (laws told) opening scripts first scene c c' script s' is.stands read.alone (read.read told)
         (inr (taken.more, stage_is, walks told opening scripts first scene is)))
-        answer (work_by s' (waiting_job taken.more) answer taken.answer (λ job waits. subst (λ (x : Stage). IsWorkOf x job) (sym stage_is) waits))
+        answer (work_by s' (waiting_job taken.more) answer taken.answer (λ job waits. subst (λ (x : Stage). waiting_in x ≡ Some job) (sym stage_is) waits))

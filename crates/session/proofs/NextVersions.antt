@@ -26,7 +26,7 @@ use Rattle.ground_model.specs.Walking.{IsAhead}
 use Rattle.ground_model.proofs.Ahead.{ahead_in, walk_begins, writes_have_steps}
 use Rattle.ground_model.proofs.Naming.{commit_names, unlocked_is_unlinked}
 use Rattle.ground_model.proofs.Shows.{base_shows}
-use Rattle.session.specs.Calls.{IsIn, IsReady, IsWorkOf, TurnCall}
+use Rattle.session.specs.Calls.{IsIn, IsReady, TurnCall, waiting_in}
 use Rattle.session.specs.Ends.{TurnGoes}
 use Rattle.session.specs.Own.{IsBehind, IsMerged, IsMergedIn, IsNaming, IsNamingAt, IsWalkingOn}
 use Rattle.session.specs.Reads.{IsVersionOf, ReadCall}
@@ -54,7 +54,7 @@ ok_same r x y e f = cc
 
 -- a turn that leaves pages to be merged tells them
 pub work_by : (s' : Course) (o : Option JobValue) (answer : Turned) → MatchOption o (answer ≡ turned.Again) (λ job. answer ≡ turned.Work job)
-    → ((job : JobValue) → o ≡ Some job → IsWorkOf s'.stage job) → (answer ≡ turned.Again) ⊎ ((job : JobValue) × (answer ≡ turned.Work job) × IsWorkOf s'.stage job)
+    → ((job : JobValue) → o ≡ Some job → waiting_in s'.stage ≡ Some job) → (answer ≡ turned.Again) ⊎ ((job : JobValue) × (answer ≡ turned.Work job) × (waiting_in s'.stage ≡ Some job))
 work_by s' None answer again of_walk = inl again
 work_by s' (Some job) answer work of_walk = inr (job, work, of_walk job refl)
 
@@ -271,7 +271,7 @@ module _ {D : Type 0} (b : Ghosts D) (script : ScriptValue) (c c' : Common D) (s
           (λ told opening scripts first scene is.
           under_way_goes b (laws told) opening scripts first scene c c' script s' is.stands read.alone (read.read told)
           (inr (begun.walk, stage_is, walks told opening scripts first scene is)))
-          answer (work_by s' (waiting_job begun.walk) answer begun.answer (λ job waits. subst (λ (x : Stage). IsWorkOf x job) (sym stage_is) waits))
+          answer (work_by s' (waiting_job begun.walk) answer begun.answer (λ job waits. subst (λ (x : Stage). waiting_in x ≡ Some job) (sym stage_is) waits))
 
     pub open_call : (s' : Course) (answer : Turned) → BeginsWalk next version s s' answer → TurnCall b (IsNamingAt next) script c c' s s' answer
     open_call s' answer (inl begun) = begins_call s' answer begun

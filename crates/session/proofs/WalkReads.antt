@@ -15,7 +15,7 @@ use Rattle.tree_model.specs.States.{State}
 use Rattle.ground_model.specs.Runs.{Stands}
 use Rattle.ground_model.specs.Scenes.{Scene}
 use Rattle.ground_model.proofs.HeadsTold.{blocks_fit}
-use Rattle.session.specs.Calls.{AnswersLine, CountsTurn, IsCounted, IsIn, IsLost, IsReady, IsWorkOf, KeepsNumbers, KeepsRoom, Own, StopsBecause, TurnCall}
+use Rattle.session.specs.Calls.{AnswersLine, CountsTurn, IsCounted, IsIn, IsLost, IsReady, KeepsNumbers, KeepsRoom, Own, StopsBecause, TurnCall, waiting_in}
 use Rattle.session.specs.Ends.{StopsBy, TurnEnds, TurnGoes}
 use Rattle.session.specs.Reads.{ReadCall}
 use Rattle.session.specs.Safe.{IsSafe, IsSafeStore, noted_for}
@@ -186,7 +186,7 @@ module _ {D T : Type 0} (b : Ghosts D) (Gives : List ℕ → T → Type 0) (own 
       turns = ends;
     }
 
-    pub went_call : (answer : Turned) → (answer ≡ turned.Again) ⊎ ((job : JobValue) × (answer ≡ turned.Work job) × IsWorkOf s'.stage job) → TurnCall b own script c c' s s' answer
+    pub went_call : (answer : Turned) → (answer ≡ turned.Again) ⊎ ((job : JobValue) × (answer ≡ turned.Work job) × (waiting_in s'.stage ≡ Some job)) → TurnCall b own script c c' s s' answer
     went_call answer (inl again) =
         subst (λ (r : Turned). TurnCall b own script c c' s s' r) (sym again)
         (given_call turned.Again replies turns one_read (λ h is. (let wrong : turned.Again ≡ turned.Stopped (fault.Drive h) = is in cc wrong)) goes)

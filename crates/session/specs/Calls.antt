@@ -1,5 +1,5 @@
 -- The contracts of turns, and of what they are made of.
-use Rattle.std.specs.Prelude.{◌≡◌, ◌≢◌, ◌⊎◌, ℕ, ◌+◌, ◌<◌, ◌≤◌, List, [], ◌∷◌, ◌++◌, length, Some}
+use Rattle.std.specs.Prelude.{◌≡◌, ◌≢◌, ◌⊎◌, ℕ, ◌+◌, ◌<◌, ◌≤◌, List, [], ◌∷◌, ◌++◌, length, Option, None, Some}
 use Rattle.block_map.specs.States.{held_count}
 use Rattle.drives.specs.declared.device.Half.{Half}
 use Rattle.ground_model.specs.Scenes.{Scene}
@@ -43,12 +43,12 @@ abbrev pub KeepsRoom : {D : Type 0} → ScriptValue → Common D → Common D �
 KeepsRoom script c c' s s' =
     length (entries_of c') + entries_left script s' ≤ length (entries_of c) + entries_left script s
 
--- The pages that wait to be merged are those of the walk.
-abbrev pub IsWorkOf : Stage → JobValue → Type 0
-IsWorkOf stage.Resting job = ⊥
-IsWorkOf (stage.Naming next) job = ⊥
-IsWorkOf (stage.Walking walk) job = waiting_job walk ≡ Some job
-IsWorkOf (stage.Writing flush) job = ⊥
+-- The two pages that wait to be merged, which are those of a walk.
+abbrev pub waiting_in : Stage → Option JobValue
+waiting_in stage.Resting = None
+waiting_in (stage.Naming next) = None
+waiting_in (stage.Walking walk) = waiting_job walk
+waiting_in (stage.Writing flush) = None
 
 -- A turn that answers a line adds its answer; no other changes the answers.
 abbrev pub AnswersLine : ScriptValue → Course → Course → Turned → Type 0
@@ -56,7 +56,8 @@ AnswersLine script s s' (turned.Line n) =
     (line : Line) × (reply : LineReply) × (line_of script s ≡ Some line) × (n ≡ line.number)
     × (s'.replies ≡ record s.replies { items = s.replies.items ++ reply ∷ [] })
 AnswersLine script s s' turned.Again = s'.replies ≡ s.replies
-AnswersLine script s s' (turned.Work job) = (s'.replies ≡ s.replies) × IsWorkOf s'.stage job
+AnswersLine script s s' (turned.Work job) =
+    (s'.replies ≡ s.replies) × (waiting_in s'.stage ≡ Some job)
 AnswersLine script s s' turned.Finished =
     (length s.replies.items ≡ length script.lines) × (s' ≡ s)
 AnswersLine script s s' (turned.Stopped fault) = s'.replies ≡ s.replies

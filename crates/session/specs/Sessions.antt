@@ -8,8 +8,8 @@ use Rattle.session.specs.declared.course.Course.{Course}
 use Rattle.session.specs.declared.session.Session.{Session}
 use Rattle.session.specs.declared.stage.Stage.TheVariants.{Resting}
 
--- The client has answered no line, has had no turn and no update open, and holds no block; there is
--- room for its answers.
+-- The client has answered no line, has had no turn and no update open, has merged nothing, and holds
+-- no block; there is room for its answers.
 pub record IsNewcomer (client : ℕ) (script : ScriptValue) (s : Session) : Type 0 where
   pub its_script : s.script ≡ script
   pub number : s.course.client ≡ client
@@ -19,6 +19,7 @@ pub record IsNewcomer (client : ℕ) (script : ScriptValue) (s : Session) : Type
   pub held : s.course.held ≡ 0
   pub stage : s.course.stage ≡ Resting
   pub turns : s.course.turns ≡ 0
+  pub merges : s.merges ≡ 0
 
 -- ---- answers
 

@@ -1,9 +1,12 @@
 -- What a walk of a commit comes to in a turn.
-use Rattle.std.specs.Prelude.{◌≡◌, ◌⊎◌, ℕ, ◌<◌, MatchOption, None, Some}
+use Rattle.std.specs.Prelude.{◌≡◌, ◌≢◌, ◌⊎◌, ℕ, ◌<◌, MatchOption, Option, None, Some}
 use Rattle.joint_walk.specs.Calls.{Feeds, Settles, Starts, waiting_job}
 use Rattle.joint_walk.specs.Walks.{WalkValue}
+use Rattle.joint_walk.specs.declared.settled.Settled.{Settled}
+use Rattle.joint_walk.specs.declared.settled.Settled.TheVariants.{NoPair, ByOffer, ByWalk}
 use Rattle.page_codec.specs.Values.{PageValue, VersionValue}
 use Rattle.page_codec.specs.declared.why.Why.TheVariants.{Base}
+use Rattle.page_merge.specs.Jobs.{JobValue}
 use Rattle.pool_draft.specs.Sets.{picked_of}
 use Rattle.session.specs.Safe.{drafts_of, object_of, root_of, serial_of, view_of}
 use Rattle.session.specs.Values.{one_more}
@@ -27,7 +30,20 @@ pub record HasSettled (walk more : WalkValue) (s s' : Course) : Type 0 where
   pub settles : Settles walk (view_of s) more (view_of s')
   pub none : waiting_job more ≡ None
   pub same : IsSameDraft s s'
-  pub only : s' ≡ record s { drafts = s'.drafts; merges = s'.merges }
+  pub only : s' ≡ record s { drafts = s'.drafts }
+
+-- How many pairs of pages a client merged itself, with one that was merged so.
+abbrev pub counted_by : Settled → ℕ → ℕ
+counted_by NoPair merges = merges
+counted_by ByOffer merges = merges
+counted_by ByWalk merges = one_more merges
+
+-- Of the pages that wait to be merged, if any do, the client counts those that it merges itself: it
+-- takes what is offered exactly where that is their outcome.
+abbrev pub CountsMerge : Option JobValue → Option JobValue → ℕ → ℕ → Type 0
+CountsMerge None offer merges merges' = merges' ≡ merges
+CountsMerge (Some job) offer merges merges' =
+    (offer ≡ Some job → merges' ≡ merges) × (offer ≢ Some job → merges' ≡ one_more merges)
 
 -- The walk is kept, and the turn tells the pages of it that wait to be merged.
 pub record GoesFurther (walk : WalkValue) (s s' : Course) (result : Turned) : Type 0 where

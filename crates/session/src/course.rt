@@ -7,8 +7,8 @@ use arrayvec::ArrayVec;
 use pool_draft::PoolSet;
 
 /// How far a client has come: the answers to its lines so far, the drafts of its open update in frames that
-/// were reserved for them, the rights to each of its files, how many blocks it holds, how far its line has come and in
-/// how many turns, and how many pairs of pages it merged itself. No update is open where there is no draft.
+/// were reserved for them, the rights to each of its files, how many blocks it holds, and how far its line has come and in
+/// how many turns. No update is open where there is no draft.
 #[derive(Drop)]
 pub struct Course {
     pub(crate) client: ClientNo,
@@ -18,5 +18,4 @@ pub struct Course {
     pub(crate) held: u32,
     pub(crate) stage: Stage,
     pub(crate) turns: u64,
-    pub(crate) merges: u64,
 }

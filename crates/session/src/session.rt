@@ -17,22 +17,24 @@ use script_text::{LineReply, Script};
 use std::alloc::Global;
 use std::mem;
 
-/// A client of a run: its script, and how far it has come in it.
+/// A client of a run: its script, how far it has come in it, and how many pairs of pages it merged itself.
 #[derive(Drop)]
 pub struct Session {
     pub(crate) script: Script,
     pub(crate) course: Course,
+    pub(crate) merges: u64,
     ghost built: { AreBuilt script },
 }
 
 impl Session {
-    ghost use Rattle.std.specs.Prelude.{◌≡◌, ◌≤◌, ◌+◌, ◌↔◌, ℕ, length, IfOk, IsTrue, MatchOption, option_copied, slice_get};
+    ghost use Rattle.std.specs.Prelude.{◌≡◌, ◌≢◌, ◌≤◌, ◌+◌, ◌↔◌, ℕ, length, IfOk, IsTrue, MatchOption, option_copied, slice_get};
     ghost use Rattle.script_text.specs.declared.reply.LineReply.{LineReply};
-    ghost use Rattle.session.specs.Calls.{TurnCall};
+    ghost use Rattle.session.specs.Calls.{TurnCall, waiting_in};
     ghost use Rattle.session.specs.Own.{IsOwn};
     ghost use Rattle.session.specs.Safe.{IsSafe, IsSafeStore, entries_left};
     ghost use Rattle.session.specs.Sessions.{IsNewcomer, IsNumbered, IsReplyTo};
     ghost use Rattle.session.specs.Shared.{entries_of, room_of};
+    ghost use Rattle.session.specs.Walks.{CountsMerge};
 
     /// A client that has not begun its script. All memory that its turns need is taken here.
     pub fn make(alloc: Global, client: ClientNo, script: Script) -> Result<Session, Memory>
@@ -54,8 +56,8 @@ impl Session {
                 held: 0,
                 stage: Stage::Resting,
                 turns: 0,
-                merges: 0,
             },
+            merges: 0,
         })
     }
 
@@ -83,9 +85,9 @@ impl Session {
     /// How many pairs of pages the client merged itself, a number that stands still at its last
     /// value.
     pub fn merges(&self) -> u64
-        ensures { result ≡ self.now.course.merges }
+        ensures { result ≡ self.now.merges }
     {
-        self.course.merges
+        self.merges
     }
 
     /// Whether the line at a place, from 0, has this number.
@@ -124,6 +126,9 @@ impl Session {
             → (self.new ≡ self.old) × (common.new ≡ common.old) }
         ensures turn { TurnCall B.Blocks IsOwn self.old.script common.old common.new
             self.old.course self.new.course result }
+        ensures merges { result ≢ Turned.Finished
+            → CountsMerge (waiting_in self.old.course.stage) (option_copied offer.entry)
+            self.old.merges self.new.merges }
     {
         if self.course.replies.len() == self.script.len() {
             return Turned::Finished;
@@ -135,7 +140,10 @@ impl Session {
         match mem::replace(&mut self.course.stage, Stage::Resting) {
             Stage::Resting => unreachable!(),
             Stage::Naming { next } => self.course.open_next(common, next),
-            Stage::Walking { walk } => self.course.walk_on(common, &self.script, walk, offer),
+            Stage::Walking { walk } => {
+                self.course
+                    .walk_on(common, &self.script, walk, offer, &mut self.merges)
+            }
             Stage::Writing { flush } => self.course.write_on(common, &self.script, flush),
         }
     }

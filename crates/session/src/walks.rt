@@ -6,9 +6,9 @@ ghost use Rattle.session.specs.Calls.{IsReady, TurnCall};
 ghost use Rattle.session.specs.Own.{IsBehind, IsClashing, IsNamingAt, IsWalkingBy};
 ghost use Rattle.session.specs.Safe.{HasDraftIn, drafts_of};
 ghost use Rattle.session.specs.Values.{one_more};
-ghost use Rattle.session.specs.Walks.{BeginsWalk, GoesFurther, HasSettled, HasTaken};
+ghost use Rattle.session.specs.Walks.{BeginsWalk, CountsMerge, GoesFurther, HasSettled, HasTaken, counted_by};
 ghost use Rattle.session.specs.declared.stage.Stage.TheVariants.{Naming};
-ghost use Rattle.std.specs.Option.{ForSome};
+ghost use Rattle.std.specs.Option.{ForSome, option_copied};
 
 // How a commit goes over the versions that were committed after its base.
 
@@ -33,6 +33,16 @@ fn work_of(walk: &Walk) -> Turned
     match walk.job() {
         Some(job) => Turned::Work(*job),
         None => Turned::Again,
+    }
+}
+
+/// How many pairs of pages a client merged itself, with one that was merged so.
+fn counted(merges: u64, by: Settled) -> u64
+    ensures { result ≡ counted_by by merges }
+{
+    match by {
+        Settled::ByWalk => merges.saturating_add(1),
+        Settled::ByOffer | Settled::NoPair => merges,
     }
 }
 
@@ -121,14 +131,17 @@ impl Course {
         script: &Script,
         walk: Walk,
         offer: Option<&Done>,
+        merges: &mut u64,
     ) -> Turned
         requires ready { IsReady B.Blocks script.now common.old self.old }
         requires draft { drafts_of self.old ≡ 1 }
-        ensures { TurnCall B.Blocks (IsWalkingBy walk) script.now common.old common.new self.old
-            self.new result }
+        ensures turn { TurnCall B.Blocks (IsWalkingBy walk) script.now common.old common.new
+            self.old self.new result }
+        ensures merges { CountsMerge (waiting_job walk) (option_copied offer.entry) merges.old
+            merges.new }
     {
         let mut walk = walk;
-        self.settle_walk(&mut walk, offer);
+        self.settle_walk(&mut walk, offer, merges);
         match walk.need() {
             Some((path, block)) => self.feed_walk(common, walk, &path, block),
             None => self.end_walk(common, script, walk),
@@ -136,24 +149,17 @@ impl Course {
     }
 
     /// Merges the two pages of a walk that wait for it, if there are any, or takes what is offered
-    /// for them.
-    fn settle_walk(&mut self, walk: &mut Walk, offer: Option<&Done>)
+    /// for them where it is their outcome. Those that it merges itself are counted.
+    fn settle_walk(&mut self, walk: &mut Walk, offer: Option<&Done>, merges: &mut u64)
         requires draft { drafts_of self.old ≡ 1 }
         requires picked { picked_of self.old.drafts ≡ 0 }
-        ensures { HasSettled walk.old walk.new self.old self.new }
+        ensures settled { HasSettled walk.old walk.new self.old self.new }
+        ensures merges { CountsMerge (waiting_job walk.old) (option_copied offer.entry) merges.old
+            merges.new }
     {
         if walk.job().is_some() {
             let by = walk.settle(&mut self.drafts, offer);
-            self.count_merge(by);
-        }
-    }
-
-    /// Counts a pair of pages that the client merged itself.
-    fn count_merge(&mut self, by: Settled)
-        ensures { self.new ≡ record self.old { merges = self.new.merges } }
-    {
-        if let Settled::ByWalk = by {
-            self.merges = self.merges.saturating_add(1);
+            *merges = counted(*merges, by);
         }
     }
 

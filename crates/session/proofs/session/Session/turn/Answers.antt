@@ -24,7 +24,7 @@ pub returns-in-Walking-clause-turn : goal.returns-in-Walking-clause-turn
 returns-in-Walking-clause-turn g c =
     staged_call _ _ _ _ _ _ _ _ (omega (arith, c.if-len.false))
     (λ scripts scene own. walking_own scripts scene _ _ _ c.in-Walking.walk (at_stage scripts scene _ _ c.replace.new.dest _ (sym c.in-Walking.ensures.value) own))
-    _ c.walk_on.ensures
+    _ c.walk_on.ensures.turn
 
 pub returns-in-Writing-clause-turn : goal.returns-in-Writing-clause-turn
 returns-in-Writing-clause-turn g c =
@@ -39,7 +39,7 @@ pub returns-in-Naming-clause-still : goal.returns-in-Naming-clause-still
 returns-in-Naming-clause-still g c = λ is. absurd (unfinished _ _ _ _ _ _ _ _ (c.open_next.ensures _ (ready_from _ _ _ _ c.replace.new.dest c.in-Naming.ensures.after (omega (arith, c.if-len.false)) c.requires.store c.requires.safe c.requires.room)) (omega (arith, c.if-len.false)) is)
 
 pub returns-in-Walking-clause-still : goal.returns-in-Walking-clause-still
-returns-in-Walking-clause-still g c = λ is. absurd (unfinished _ _ _ _ _ _ _ _ c.walk_on.ensures (omega (arith, c.if-len.false)) is)
+returns-in-Walking-clause-still g c = λ is. absurd (unfinished _ _ _ _ _ _ _ _ c.walk_on.ensures.turn (omega (arith, c.if-len.false)) is)
 
 pub returns-in-Writing-clause-still : goal.returns-in-Writing-clause-still
 returns-in-Writing-clause-still g c = λ is. absurd (unfinished _ _ _ _ _ _ _ _ c.write_on.ensures (omega (arith, c.if-len.false)) is)
