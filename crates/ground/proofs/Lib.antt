@@ -1,4 +1,5 @@
 pub mod Clients
+pub mod Merging
 pub mod Unmoved
 pub mod Halts
 pub mod Timely

@@ -1,6 +1,6 @@
 -- The clients of a run before its first turn.
-use Rattle.std.proofs.Common.{◌≡◌, ◌⊎◌, inl, inr, ℕ, zero, suc, ◌+◌, ◌-◌, ◌*◌, ◌≤◌, List, [], ◌∷◌, ◌++◌, length, Option, Some, None, refl, sym, ap, ◌∙◌, subst, arith}
-use Rattle.std.specs.Prelude.{slice_get, sum_by}
+use Rattle.std.proofs.Common.{◌≡◌, ◌⊎◌, inl, inr, ℕ, zero, suc, ◌+◌, ◌-◌, ◌*◌, ◌^◌, ◌≤◌, List, [], ◌∷◌, ◌++◌, length, Option, Some, None, refl, sym, ap, ◌∙◌, subst, arith}
+use Rattle.std.specs.Prelude.{min, slice_get, sum_by}
 use Rattle.std.specs.Option.{option_map_or}
 use Rattle.std.proofs.lemmas.List.{length-map, map-append}
 use Rattle.std.proofs.lemmas.List.Sums.{sum_by-cons, sum_by-le-sum_by}
@@ -25,6 +25,7 @@ use Rattle.ground.specs.Grounds.{AreClients, HasRun, IsGround, IsSafeRun, left_o
 use Rattle.ground.specs.Making.{AreNewcomers, HasBegun, room_for}
 use Rattle.ground.specs.Runs.{scripts_of}
 use Rattle.ground.proofs.Clients.{lines_at}
+use Rattle.ground.proofs.Merging.{none_merged}
 
 -- what is found in a list with one element more
 get_push : {X : Type 0} (xs : List X) (k : ℕ) (x y : X) → slice_get (xs ++ y ∷ []) k ≡ Some x → (slice_get xs k ≡ Some x) ⊎ ((k ≡ length xs) × (x ≡ y))
@@ -137,6 +138,7 @@ module _ {D : Type 0} (b : Ghosts D) (o : OpenedOver D) (c : Common D) (sessions
     doubt = over.doubt;
     fault = refl;
     replies = λ k. by (k - 1) (slice_get sessions (k - 1)) refl;
+    merges = ap (λ n. min n (2 ^ 64 - 1)) (none_merged sessions (λ i s at. (new.fresh i s at).merges));
   }
     where
       by : (i : ℕ) (x : Option Session) → slice_get sessions i ≡ x → option_map_or (λ (s : Session). s.course.replies.items) x [] ≡ []

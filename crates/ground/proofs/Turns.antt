@@ -1,8 +1,9 @@
 -- What a turn of one client comes to for the run.
 use Rattle.std.proofs.Common.{◌≡◌, ◌≢◌, inl, inr, ℕ, ◌-◌, ◌≤◌, List, [], ◌∷◌, ◌++◌, length, Option, Some, None, refl, sym, ap, ◌∙◌, subst, arith}
-use Rattle.std.specs.Prelude.{slice_get, slice_set}
+use Rattle.std.specs.Prelude.{option_and_then, slice_get, slice_set}
 use Rattle.std.specs.Option.{option_map_or}
 use Rattle.pair_store.specs.declared.store.Blocks.{Ghosts}
+use Rattle.page_merge.specs.Jobs.{JobValue}
 use Rattle.ground_model.specs.Opened.{IsOpenedFrom}
 use Rattle.recovery.specs.declared.opened.OpenedOver.{OpenedOver}
 use Rattle.script_text.specs.ScriptValue.{ScriptValue}
@@ -13,12 +14,13 @@ use Rattle.service_model.specs.Legal.{IsLegalFrom}
 use Rattle.service_model.specs.Standing.{Scripts, lines_of, start}
 use Rattle.service_model.proofs.Members.{set_elsewhere, set_here}
 use Rattle.tree_model.specs.States.{State}
-use Rattle.session.specs.Calls.{AnswersLine, CountsTurn, IsCounted, IsLost, KeepsRest, TurnCall}
+use Rattle.session.specs.Calls.{AnswersLine, CountsTurn, IsCounted, IsLost, KeepsRest, TurnCall, waiting_in}
 use Rattle.session.specs.Ends.{StopsWith, TurnEnds, TurnGoes}
 use Rattle.session.specs.Own.{IsOwn}
 use Rattle.session.specs.Safe.{IsSafe, entries_left}
 use Rattle.session.specs.Shared.{RunStands, entries_of}
 use Rattle.session.specs.Values.{RepliesValue, one_more}
+use Rattle.session.specs.Walks.{CountsMerge}
 use Rattle.session.proofs.Frames.{own_is_left, safe_is_left}
 use Rattle.session.specs.declared.common.Common.{Common}
 use Rattle.session.specs.declared.session.Session.{Session}
@@ -28,9 +30,10 @@ use Rattle.session.specs.declared.turned.Turned.{Turned}
 use Rattle.session.specs.declared.turned.Turned.TheVariants as turned
 use Rattle.ground.specs.Grounds.{AllStand, AreClients, HasHalted, HasRun, IsGround, IsSafeRun, StandsOr}
 use Rattle.ground.specs.Runs.{GroundValue, scripts_of, store_in}
-use Rattle.ground.specs.Turning.{AnswersTurn, AreLater, CountsTurns, HasNoted, IsAnswering, IsNeverBad, IsRunOf, IsSameRun, IsStoppedBy, IsThrough, IsTimely, IsWhole, OthersStay, fault_of, replies_of, turns_of}
+use Rattle.ground.specs.Turning.{AnswersTurn, AreLater, CountsMerges, CountsTurns, HasNoted, IsAnswering, IsNeverBad, IsRunOf, IsSameRun, IsStoppedBy, IsThrough, IsTimely, IsWhole, OthersStay, fault_of, merges_of, replies_of, turns_of, waiting_of}
 use Rattle.ground.proofs.Timely.{between_here, timely_here}
 use Rattle.ground.proofs.Halts.{entries_noted, halts, nothing_noted, unmoved_moments}
+use Rattle.ground.proofs.Merging.{merged_in_all}
 use Rattle.ground.proofs.Clients.{clients_set, get_set, left_set, lines_at, scripts_set, set_same}
 
 module _ {D : Type 0} (b : Ghosts D) (opened : OpenedOver D) (c c' : Common D) (sessions : List Session) (i : ℕ) (s s' : Session) (result : Turned)
@@ -153,10 +156,18 @@ module _ {D : Type 0} (b : Ghosts D) (opened : OpenedOver D) (c c' : Common D) (
         ap (λ (x : Common D). record after { common = x }) same.1 ∙ ap (λ xs. record before { sessions = xs; fault = fault_of result }) (ap (slice_set sessions i) same.0 ∙ set_same sessions i s at)
         ∙ ap (λ f. record before { fault = f }) (ap fault_of (sym is ∙ done))
 
+    waiting_was : waiting_of before k ≡ waiting_in s.course.stage
+    waiting_was = ap (λ n. option_and_then (λ (t : Session). waiting_in t.course.stage) (slice_get sessions n)) (sym place)
+        ∙ ap (λ o. option_and_then (λ (t : Session). waiting_in t.course.stage) o) at
+
+    waiting_is : waiting_of after k ≡ waiting_in s'.course.stage
+    waiting_is = ap (λ n. option_and_then (λ (t : Session). waiting_in t.course.stage) (slice_get (slice_set sessions i s') n)) (sym place)
+        ∙ ap (λ o. option_and_then (λ (t : Session). waiting_in t.course.stage) o) (set_here sessions i s s' at)
+
     answers_by : (r : Turned) → r ≡ result → AnswersLine s.script s.course s'.course r → AnswersTurn before after k r
     answers_by (turned.Line n) is h = line_answered n h
     answers_by turned.Again is h = same_replies k place h
-    answers_by (turned.Work job) is h = same_replies k place h.0
+    answers_by (turned.Work job) is h = (same_replies k place h.0, waiting_is ∙ h.1)
     answers_by turned.Finished is h = (
       ap length (mine_was k place) ∙ h.0 ∙ ap length (sym (my_lines k place)),
       nothing_new turned.Finished is refl,
@@ -182,6 +193,22 @@ module _ {D : Type 0} (b : Ghosts D) (opened : OpenedOver D) (c c' : Common D) (
 
     pub counts : CountsTurns before after k result
     counts = counts_by result call.counts
+
+    merges_was : merges_of before k ≡ s.merges
+    merges_was = ap (λ n. option_map_or (λ (t : Session). t.merges) (slice_get sessions n) 0) (sym place) ∙ ap (λ o. option_map_or (λ (t : Session). t.merges) o 0) at
+
+    merges_is : merges_of after k ≡ s'.merges
+    merges_is = ap (λ n. option_map_or (λ (t : Session). t.merges) (slice_get (slice_set sessions i s') n) 0) (sym place)
+        ∙ ap (λ o. option_map_or (λ (t : Session). t.merges) o 0) (set_here sessions i s s' at)
+
+    pub merges : (offer : Option JobValue) → CountsMerge (waiting_in s.course.stage) offer s.merges s'.merges → CountsMerges before after k offer
+    merges offer counts =
+        let F : ℕ → ℕ → Type 0 = λ n n'. CountsMerge (waiting_of before k) offer n n' in
+        let waits = subst (λ (o : Option JobValue). CountsMerge o offer s.merges s'.merges) (sym waiting_was) counts in
+        record {
+          client = subst (λ n. F n (merges_of after k)) (sym merges_was) (subst (F s.merges) (sym merges_is) waits);
+          run = merged_in_all sessions i s s' (waiting_of before k) offer at waits;
+        }
 
     my_place : slice_get (slice_set sessions i s') (k - 1) ≡ Some s'
     my_place = ap (slice_get (slice_set sessions i s')) (sym place) ∙ set_here sessions i s s' at
@@ -259,7 +286,7 @@ module _ {D : Type 0} (b : Ghosts D) (opened : OpenedOver D) (c c' : Common D) (
 -- ---- as a run sees it
 
 -- What a turn of client k comes to.
-pub record Came {D : Type 0} (b : Ghosts D) (g g' : GroundValue D) (k : ℕ) (result : Turned) : Type 0 where
+pub record Came {D : Type 0} (b : Ghosts D) (g g' : GroundValue D) (k : ℕ) (offer : Option JobValue) (result : Turned) : Type 0 where
   pub keeps : IsGround b g'
   pub run : IsSameRun b g g'
   pub stays : (fault : Fault) → g.fault ≡ Some fault → (result ≡ turned.Stopped fault) × (g' ≡ g)
@@ -270,6 +297,7 @@ pub record Came {D : Type 0} (b : Ghosts D) (g g' : GroundValue D) (k : ℕ) (re
   pub timely : (opening : State) → IsRunOf b g opening → g'.fault ≡ None → IsTimely opening g' k
   pub whole : (opening : State) → IsRunOf b g opening → IsWhole opening g' k result
   pub others : OthersStay g g' k
+  pub merges : g.fault ≡ None → result ≢ turned.Finished → CountsMerges g g' k offer
   pub finished : IsThrough g k → g.fault ≡ None → result ≡ turned.Finished
   pub counted : IsCounted (b.count (store_in g)) (b.count (store_in g')) result
   pub later : AreLater b g g'
@@ -277,7 +305,7 @@ pub record Came {D : Type 0} (b : Ghosts D) (g g' : GroundValue D) (k : ℕ) (re
   pub notes : (opening : State) → IsRunOf b g opening → HasNoted b opening g g' k
   pub good : (opening : State) → IsRunOf b g opening → IsNeverBad result
 
-module _ {D : Type 0} (b : Ghosts D) (opened : OpenedOver D) (c c' : Common D) (sessions : List Session) (s s' : Session) (k i : ℕ) (result : Turned)
+module _ {D : Type 0} (b : Ghosts D) (opened : OpenedOver D) (c c' : Common D) (sessions : List Session) (s s' : Session) (k i : ℕ) (offer : Option JobValue) (result : Turned)
     (fault : Option Fault) (g : GroundValue D) where
   abbrev was : Option Fault → GroundValue D
   was f = record { opened = opened; common = c; sessions = sessions; fault = f }
@@ -297,11 +325,12 @@ module _ {D : Type 0} (b : Ghosts D) (opened : OpenedOver D) (c c' : Common D) (
     pub finished : length s.course.replies.items ≡ length s.script.lines → result ≡ turned.Finished
     pub still : result ≡ turned.Finished → (s' ≡ s) × (c' ≡ c)
     pub call : TurnCall b IsOwn s.script c c' s.course s'.course result
+    pub merges : result ≢ turned.Finished → CountsMerge (waiting_in s.course.stage) offer s.merges s'.merges
 
-  pub came : Turning → (f : Option Fault) → f ≡ fault_of result → Came b g (becomes f) k result
+  pub came : Turning → (f : Option Fault) → f ≡ fault_of result → Came b g (becomes f) k offer result
   came t f is =
-      let F : Option Fault → Type 0 = λ x. Came b g (becomes x) k result in
-      let G : GroundValue D → Type 0 = λ x. Came b x (becomes (fault_of result)) k result in
+      let F : Option Fault → Type 0 = λ x. Came b g (becomes x) k offer result in
+      let G : GroundValue D → Type 0 = λ x. Came b x (becomes (fault_of result)) k offer result in
       subst F (sym is) (subst G (ap was (sym t.none) ∙ t.is) here)
     where
       ground : IsGround b (was None)
@@ -310,7 +339,7 @@ module _ {D : Type 0} (b : Ghosts D) (opened : OpenedOver D) (c c' : Common D) (
       noted_here : (o : State) → IsRunOf b (was None) o → HasNoted b o (was None) (becomes (fault_of result)) k × IsNeverBad result
       noted_here = notes b opened c c' sessions i s s' result t.at t.script t.call t.still k t.place t.number ground.safe.clients ground.told
 
-      here : Came b (was None) (becomes (fault_of result)) k result
+      here : Came b (was None) (becomes (fault_of result)) k offer result
       here = record {
         keeps = keeps b opened c c' sessions i s s' result t.at t.script t.call t.still ground;
         run = run b opened c c' sessions i s s' result t.at t.script t.call t.still;
@@ -322,6 +351,7 @@ module _ {D : Type 0} (b : Ghosts D) (opened : OpenedOver D) (c c' : Common D) (
         timely = timely b opened c c' sessions i s s' result t.at t.script t.call t.still k t.place t.number (keeps b opened c c' sessions i s s' result t.at t.script t.call t.still ground);
         whole = whole b opened c c' sessions i s s' result t.at t.script t.call t.still k t.place t.number (keeps b opened c c' sessions i s s' result t.at t.script t.call t.still ground);
         others = others b opened c c' sessions i s s' result t.at t.script t.call t.still k t.place t.number;
+        merges = λ none ne. merges b opened c c' sessions i s s' result t.at t.script t.call t.still k t.place t.number offer (t.merges ne);
         finished = λ through none. finished b opened c c' sessions i s s' result t.at t.script t.call t.still k t.place t.number t.finished through;
         counted = t.call.counted;
         later = record { faults = t.call.numbers.faults; last = t.call.numbers.last };

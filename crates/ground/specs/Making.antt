@@ -6,7 +6,7 @@ use Rattle.service_model.specs.Standing.{Scripts}
 use Rattle.session.specs.Built.{AreBuilt}
 use Rattle.session.specs.Sessions.{IsNewcomer}
 use Rattle.session.specs.declared.session.Session.{Session}
-use Rattle.ground.specs.Runs.{GroundValue, journal_in, scripts_in, scripts_of, store_in}
+use Rattle.ground.specs.Runs.{GroundValue, journal_in, own_merges_in, scripts_in, scripts_of, store_in}
 use Rattle.ground.specs.Turning.{replies_of}
 
 -- The lines of these scripts are all such as clients play.
@@ -24,7 +24,7 @@ pub record AreNewcomers (scripts : Scripts) (sessions : List Session) : Type 0 w
 abbrev pub room_for : Scripts → ℕ
 room_for scripts = sum_by (λ (script : ScriptValue). 4 * length script.lines) scripts
 
--- The run of these scripts over a store that was opened has made no turn.
+-- The run of these scripts over a store that was opened has made no turn, and no client merged.
 pub record HasBegun {D : Type 0} (o : OpenedOver D) (scripts : Scripts)
     (g : GroundValue D) : Type 0 where
   pub opened : g.opened ≡ o
@@ -34,3 +34,4 @@ pub record HasBegun {D : Type 0} (o : OpenedOver D) (scripts : Scripts)
   pub doubt : (journal_in g).doubt ≡ None
   pub fault : g.fault ≡ None
   pub replies : (k : ℕ) → replies_of g k ≡ []
+  pub merges : own_merges_in g ≡ 0

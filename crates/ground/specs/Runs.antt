@@ -42,4 +42,4 @@ told_in g = told_of g.common.heads.items
 -- How many pairs of pages the clients merged themselves, a number that stands still at its last
 -- value.
 abbrev pub own_merges_in : {D : Type 0} → GroundValue D → ℕ
-own_merges_in g = min (sum_by (λ (s : Session). s.course.merges) g.sessions) (2 ^ 64 - 1)
+own_merges_in g = min (sum_by (λ (s : Session). s.merges) g.sessions) (2 ^ 64 - 1)

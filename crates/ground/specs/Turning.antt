@@ -1,11 +1,12 @@
 -- What a turn of a run comes to.
-use Rattle.std.specs.Prelude.{◌≡◌, ◌≢◌, ℕ, ◌-◌, ◌^◌, ◌<◌, ◌≤◌, List, [], ◌∷◌, ◌++◌, length, Option, Some, None, Ok, slice_get}
+use Rattle.std.specs.Prelude.{◌≡◌, ◌≢◌, ℕ, ◌-◌, ◌^◌, ◌<◌, ◌≤◌, List, [], ◌∷◌, ◌++◌, length, Option, Some, None, Ok, option_and_then, slice_get}
 use Rattle.std.specs.Option.{option_map_or}
 use Rattle.drives.specs.declared.device.Half.{Half}
 use Rattle.ground_model.specs.Opened.{IsOpenedFrom}
 use Rattle.ground_model.specs.Bounds.{line_bound}
 use Rattle.ground_model.specs.Fronts.{AreOfTurn}
 use Rattle.page_codec.specs.declared.why.Why.{Why}
+use Rattle.page_merge.specs.Jobs.{JobValue}
 use Rattle.pair_store.specs.declared.store.Blocks.{Ghosts}
 use Rattle.recovery.specs.Opening.{IsFailed}
 use Rattle.script_text.specs.declared.reply.LineReply.{LineReply}
@@ -15,9 +16,11 @@ use Rattle.service_model.specs.Entries.{standing_after}
 use Rattle.service_model.specs.Legal.{IsLegalFrom}
 use Rattle.service_model.specs.Standing.{Standing, lines_of}
 use Rattle.play_order.specs.Orders.{IsBetween}
+use Rattle.session.specs.Calls.{waiting_in}
 use Rattle.session.specs.Ends.{AreOf}
 use Rattle.session.specs.Sessions.{IsReplyTo}
 use Rattle.session.specs.Values.{one_more}
+use Rattle.session.specs.Walks.{CountsMerge}
 use Rattle.session.specs.declared.session.Session.{Session}
 use Rattle.session.specs.declared.turned.Fault.{Fault}
 use Rattle.session.specs.declared.turned.Fault.TheVariants.{Drive, Bad}
@@ -25,7 +28,7 @@ use Rattle.session.specs.declared.turned.Turned.{Turned}
 use Rattle.session.specs.declared.turned.Turned.TheVariants as turned
 use Rattle.store_model.specs.Found.{found}
 use Rattle.tree_model.specs.States.{State}
-use Rattle.ground.specs.Runs.{GroundValue, entries_in, scripts_in, store_in}
+use Rattle.ground.specs.Runs.{GroundValue, entries_in, own_merges_in, scripts_in, store_in}
 
 -- ---- clients
 
@@ -71,11 +74,16 @@ pub record IsAnswering {D : Type 0} (g g' : GroundValue D) (k n : ℕ) : Type 0 
   pub reply : LineReply
   pub more : replies_of g' k ≡ replies_of g k ++ reply ∷ []
 
--- By its answer, what a turn did to the client's own answers.
+-- The two pages of a client that wait to be merged.
+abbrev pub waiting_of : {D : Type 0} → GroundValue D → ℕ → Option JobValue
+waiting_of g k = option_and_then (λ (s : Session). waiting_in s.course.stage) (session_of g k)
+
+-- By its answer, what a turn did to the client's own answers, and which of its pages wait.
 abbrev pub AnswersTurn : {D : Type 0} → GroundValue D → GroundValue D → ℕ → Turned → Type 0
 AnswersTurn g g' k (turned.Line n) = IsAnswering g g' k n
 AnswersTurn g g' k turned.Again = replies_of g' k ≡ replies_of g k
-AnswersTurn g g' k (turned.Work job) = replies_of g' k ≡ replies_of g k
+AnswersTurn g g' k (turned.Work job) =
+    (replies_of g' k ≡ replies_of g k) × (waiting_of g' k ≡ Some job)
 AnswersTurn g g' k turned.Finished = IsThrough g k × (g' ≡ g)
 AnswersTurn g g' k (turned.Stopped fault) = replies_of g' k ≡ replies_of g k
 
@@ -90,6 +98,16 @@ CountsTurns g g' k turned.Again = turns_of g' k ≡ one_more (turns_of g k)
 CountsTurns g g' k (turned.Work job) = turns_of g' k ≡ one_more (turns_of g k)
 CountsTurns g g' k turned.Finished = turns_of g' k ≡ turns_of g k
 CountsTurns g g' k (turned.Stopped fault) = Unit {0}
+
+-- How many pairs of pages a client merged itself.
+abbrev pub merges_of : {D : Type 0} → GroundValue D → ℕ → ℕ
+merges_of g k = option_map_or (λ (s : Session). s.merges) (session_of g k) 0
+
+-- The client counts those of its waiting pages that it merges itself, and so they count for the run.
+pub record CountsMerges {D : Type 0} (g g' : GroundValue D) (k : ℕ)
+    (offer : Option JobValue) : Type 0 where
+  pub client : CountsMerge (waiting_of g k) offer (merges_of g k) (merges_of g' k)
+  pub run : CountsMerge (waiting_of g k) offer (own_merges_in g) (own_merges_in g')
 
 -- The other clients are as they were.
 abbrev pub OthersStay : {D : Type 0} → GroundValue D → GroundValue D → ℕ → Type 0

@@ -1,5 +1,5 @@
 ghost use Rattle.std.specs.Prelude.{◌-◌, ◌<◌, option_copied, slice_get};
-ghost use Rattle.std.specs.Prelude.{◌≡◌, ◌≤◌, IfErr, IfOk, MatchOption, None, Some, length};
+ghost use Rattle.std.specs.Prelude.{◌≡◌, ◌≢◌, ◌≤◌, IfErr, IfOk, MatchOption, None, Some, length};
 ghost use Rattle.service_model.specs.Sound.{AreSayable};
 ghost use Rattle.session.specs.Calls.{IsCounted, KeepsRest};
 ghost use Rattle.script_text.specs.declared.reply.LineReply.{LineReply};
@@ -13,7 +13,7 @@ ghost use Rattle.ground.specs.Making.{AreAllBuilt, AreNewcomers, HasBegun, room_
 ghost use Rattle.ground.specs.Runs.{entries_in, journal_in, own_merges_in, scripts_in, scripts_of, store_in, told_in};
 ghost use Rattle.ground.specs.Promises.{IsPromised, kept_in};
 ghost use Rattle.ground.specs.Turning.{replies_of};
-ghost use Rattle.ground.specs.Turning.{CountsTurns, IsTimely, IsWhole};
+ghost use Rattle.ground.specs.Turning.{CountsMerges, CountsTurns, IsTimely, IsWhole};
 ghost use Rattle.ground.specs.Turning.{AnswersTurn, AreLater, HasNoted, IsAnswered, IsNeverBad, IsRunOf, IsSameRun, IsStoppedBy, IsThrough, OthersStay, fault_of};
 
 // A run of clients.
@@ -132,6 +132,8 @@ impl<B: Blocks> GroundOver<B> {
         ensures answers { AnswersTurn self.old self.new client result }
         ensures turns { CountsTurns self.old self.new client result }
         ensures others { OthersStay self.old self.new client }
+        ensures merges { self.old.fault ≡ None → result ≢ Turned.Finished
+            → CountsMerges self.old self.new client (option_copied offer.entry) }
         ensures finished { IsThrough self.old client → self.old.fault ≡ None
             → result ≡ Turned.Finished }
         ensures counted { IsCounted (B.count (store_in self.old)) (B.count (store_in self.new))

@@ -10,7 +10,7 @@ turn-turned-requires-clause-safe g c = c.self.invariant.safe.safe (c.get.result 
 
 pub invariant_of-self : goal.invariant_of-self
 invariant_of-self g c =
-    (came _ c.self.inside.opened.value c.self.inside.common c.turn-turned.new.common c.self.inside.sessions.items c.index_mut-session.result.now c.turn-turned.new.self c.args.client (c.get.result - 1) c.turn-turned.result c.self.inside.fault c.args.self.now
+    (came _ c.self.inside.opened.value c.self.inside.common c.turn-turned.new.common c.self.inside.sessions.items c.index_mut-session.result.now c.turn-turned.new.self c.args.client (c.get.result - 1) (option_copied c.args.offer) c.turn-turned.result c.self.inside.fault c.args.self.now
     (record {
       sound = c.self.invariant;
       is = c.self.view_is;
@@ -22,6 +22,7 @@ invariant_of-self g c =
       finished = c.turn-turned.ensures.finished;
       still = c.turn-turned.ensures.still;
       call = c.turn-turned.ensures.turn;
+      merges = c.turn-turned.ensures.merges;
     }) c.fault_of-self-inside.result c.fault_of-self-inside.ensures).keeps
 
 pub returns-in-Some-clause-good : goal.returns-in-Some-clause-good
@@ -29,7 +30,7 @@ returns-in-Some-clause-good g c = never_bad _ _ _ c.in-Some.fault c.self.view_is
 
 pub returns : goal.returns
 returns g c =
-    let all = (came _ c.self.inside.opened.value c.self.inside.common c.turn-turned.new.common c.self.inside.sessions.items c.index_mut-session.result.now c.turn-turned.new.self c.args.client (c.get.result - 1) c.turn-turned.result c.self.inside.fault c.args.self.now
+    let all = (came _ c.self.inside.opened.value c.self.inside.common c.turn-turned.new.common c.self.inside.sessions.items c.index_mut-session.result.now c.turn-turned.new.self c.args.client (c.get.result - 1) (option_copied c.args.offer) c.turn-turned.result c.self.inside.fault c.args.self.now
     (record {
       sound = c.self.invariant;
       is = c.self.view_is;
@@ -41,6 +42,7 @@ returns g c =
       finished = c.turn-turned.ensures.finished;
       still = c.turn-turned.ensures.still;
       call = c.turn-turned.ensures.turn;
+      merges = c.turn-turned.ensures.merges;
     }) c.fault_of-self-inside.result c.fault_of-self-inside.ensures) in
     record {
       run = all.run;
@@ -52,6 +54,7 @@ returns g c =
       timely = all.timely;
       whole = all.whole;
       others = all.others;
+      merges = all.merges;
       finished = all.finished;
       counted = all.counted;
       later = all.later;
