@@ -1,4 +1,4 @@
-use Rattle.std.proofs.Common.{◌-◌, length, ap, arith}
+use Rattle.std.proofs.Common.{◌-◌, length, ap, arith, option_copied}
 use Rattle.ground.specs.Runs.{GroundValue}
 use Rattle.ground.proofs.Clients.{at_of}
 use Rattle.ground.proofs.Halts.{never_bad}
