@@ -117,7 +117,7 @@ loop-preserved g c = elim c.match-turned.branch [
         good = e.good;
         promised = c.promise-in-loop.ensures;
       })
-      (subst (AnswersTurn c.loop.run c.turn-turned.new.self c.args.client) w.in-Work.is c.turn-turned.ensures.answers)
+      (let answers : AnswersTurn c.loop.run c.turn-turned.new.self c.args.client (turned.Work w.in-Work.field-0) = subst (AnswersTurn c.loop.run c.turn-turned.new.self c.args.client) w.in-Work.is c.turn-turned.ensures.answers in answers.0)
       (subst (CountsTurns c.loop.run c.turn-turned.new.self c.args.client) w.in-Work.is c.turn-turned.ensures.turns)
       (subst (KeepsRest g.B.Blocks (store_in c.loop.run) (store_in c.turn-turned.new.self)) w.in-Work.is c.turn-turned.ensures.rest)
       (c.turn-turned.ensures.fault ∙ ap fault_of w.in-Work.is)
